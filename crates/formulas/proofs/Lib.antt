@@ -1,0 +1,4 @@
+pub mod Judgements
+pub mod NodeSets
+pub mod Satisfaction
+pub mod Sheets

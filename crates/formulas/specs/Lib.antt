@@ -1,0 +1,5 @@
+pub mod Formula
+pub mod Judging
+pub mod NodeSets
+pub mod Refusal
+pub mod Sheet
