@@ -1,0 +1,13 @@
+pub mod Agreement
+pub mod Approximants
+pub mod Bound
+pub mod Counting
+pub mod Formulas
+pub mod Invariant
+pub mod Joined
+pub mod Logic
+pub mod Reasons
+pub mod Rounds
+pub mod Standing
+pub mod Still
+pub mod Unfolded

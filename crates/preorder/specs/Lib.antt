@@ -1,0 +1,4 @@
+pub mod Prebisimulation
+pub mod Reason
+pub mod Strikes
+pub mod Unfolding
