@@ -1,7 +1,9 @@
 // A door reader with its barrier: the house's specification and a supplier's design, from file bytes to answers.
+mod compare;
 mod equipment;
 mod report;
 
+use compare::show_comparison;
 use equipment::DAMAGED;
 use equipment::DESIGN;
 use equipment::SPECIFICATION;
@@ -26,6 +28,18 @@ fn main(rt: LibcRuntime) -> io::Result<()> {
         show_system(&rt, "specification", &specification, first_end)?;
         show_system(&rt, "design", &design, second_end)?;
         show_clauses(&rt, &specification, &design)?;
+        show_comparison(
+            &rt,
+            "The specification against the design",
+            &specification,
+            &design,
+        )?;
+        show_comparison(
+            &rt,
+            "The design against the specification",
+            &design,
+            &specification,
+        )?;
     }
     println!(rt, "\nA damaged copy of the specification")?;
     if let Err(fault) = file(DAMAGED, 0, &mut specification) {
