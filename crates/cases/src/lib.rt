@@ -1,5 +1,9 @@
 // Worked cases and refusals, run as tests.
 #[cfg(test)]
+mod comparison_cases;
+#[cfg(test)]
 mod filing_cases;
 #[cfg(test)]
 mod judging_cases;
+#[cfg(test)]
+mod view_cases;
