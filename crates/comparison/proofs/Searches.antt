@@ -5,7 +5,7 @@ use mathlib.Core.Logic.{_⊎_, inl, inr}
 use mathlib.Core.List.{List}
 use mathlib.Core.Bool.{Bool, true, false, not, _&&_, _||_}
 use native.Mathlib.Omega.{arith}
-use lib.Bits.{bitAnd, and-lt}
+use lib.Bits.{bitAnd, and-lt, bitOr}
 use lib.Dec.{eqb}
 use lib.ListN.{getD}
 use Rattle.std.specs.declared.option.Option.{Option}
@@ -15,9 +15,10 @@ use Rattle.std.proofs.shelf.Tests.{cases-lt, cases-bool, eqb-true, eq-eqb, and-
 use Rattle.std.proofs.shelf.Ways.{same-from-decides, decides-not}
 use Rattle.systems.specs.Meaning.{Meaning, Bounded}
 use Rattle.systems.specs.Sets.{has, set-of}
-use Rattle.systems.proofs.Sets.{has-and, has-ext, has-none, has-set-of, set-of-lt, some-decides}
+use Rattle.systems.proofs.Sets.{has-and, has-ext, has-none, has-set-of, set-of-lt, some-decides, has-or}
 use Rattle.preorder.specs.Prebisimulation.{Relation}
 use Rattle.preorder.specs.Reason.{Reason as Why, first, given, or-else, unanswered, forth-reason, mark-reason, back-reason}
+use Rattle.systems.proofs.Questions.{has-marks}
 use Rattle.comparison.specs.Search.{found, lowest, relation-of, turned, unmatched}
 
 -- ---- the first that is there
@@ -161,6 +162,16 @@ module _ (x : ℕ) (small : x < 2 ^ 64) (w : ℕ) (narrow : w ≤ 64) (f : ℕ �
               let parts = and-parts (has x u) _ e in
               let passes = sym (has-set-of 64 f u h) ∙ parts .1 in
               absurd (none (u, bounded u passes, and-from _ _ passes (parts .0)))
+
+-- what the sets of open actions say of one action
+module _ {L : Type 0} (m n : Meaning L) (bm : Bounded m) (bn : Bounded n) (p q a : ℕ) where
+  pub opens-is : {x y : ℕ} → x ≡ set-of 32 (m .marks p) → y ≡ set-of 32 (n .marks q)
+      → (not (has x a) && has y a) ≡ (not (m .marks p a) && n .marks q a)
+  opens-is e d =
+      ap₂ (λ (u v : Bool). not u && v) (ap (λ (z : ℕ). has z a) e ∙ has-marks m bm p a) (ap (λ (z : ℕ). has z a) d ∙ has-marks n bn q a)
+
+  pub either-open : {x : ℕ} → x ≡ bitOr (set-of 32 (m .marks p)) (set-of 32 (n .marks q)) → has x a ≡ (m .marks p a || n .marks q a)
+  either-open e = ap (λ (z : ℕ). has z a) e ∙ has-or _ _ a ∙ ap₂ _||_ (has-marks m bm p a) (has-marks n bn q a)
 
 pub lost-is : {L : Type 0} (mover other : Meaning L) → Bounded other → (masks : List ℕ) (p q a t : ℕ) → t < 64 → getD masks t 0 < 2 ^ 64
     → (has (set-of 64 (mover .moves p a)) t && eqb (bitAnd (getD masks t 0) (set-of 64 (other .moves q a))) 0) ≡ unanswered mover other (relation-of masks) p q a t

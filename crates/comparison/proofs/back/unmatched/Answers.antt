@@ -1,20 +1,24 @@
-use mathlib.Core.Path.{sym, ap, _∙_}
-use Rattle.std.proofs.shelf.Tests.{or-left, or-right}
+use mathlib.Core.Path.{_≡_, sym, ap, _∙_}
+use mathlib.Core.Bool.{false, _||_}
+use Rattle.std.proofs.shelf.Tests.{or-parts}
 use Rattle.comparison.specs.Search.{lowest}
-use Rattle.comparison.proofs.Searches.{open-unmatched, closed-unmatched}
+use Rattle.comparison.proofs.Searches.{open-unmatched, closed-unmatched, either-open}
 use Rattle.comparison.proofs.back.unmatched.Needs as need
-use Rattle.comparison.proofs.back.unmatched.Needs.{then-is-open·by·then-is-open, then-is-open·by·else-is-open·then-is-open-2}
 
-pub returns-then-is-open : need.returns-then-is-open
-returns-then-is-open g c =
+pub returns-then-contains : need.returns-then-contains
+returns-then-contains g c =
     open-unmatched _ _ _ (c .args .p) (c .args .q) (c .args .a)
-    (elim (c .then-is-open .came) [
-      | then-is-open·by·then-is-open w ↦ or-left _ _ (sym (c .is-open .ensures) ∙ w .if-is-open .taken)
-      | then-is-open·by·else-is-open·then-is-open-2 w ↦ or-right _ _ (sym (w .is-open-else-is-open .ensures) ∙ w .if-is-open-2 .taken)
-    ])
+    (sym (either-open _ _ (g .A·System·met .bounded (c .args .first .now)) (g .B·System·met .bounded (c .args .second .now)) (c .args .p) (c .args .q) (c .args .a)
+    (c .from .ensures ∙ c .pre .marks))
+    ∙ sym (c .contains .ensures) ∙ c .if-contains .taken)
 
 pub returns : need.returns
 returns g c =
-    c .unanswered .ensures
-    ∙ ap (lowest _) (closed-unmatched _ _ _ (c .args .p) (c .args .q) (c .args .a) (sym (c .is-open .ensures) ∙ c .if-is-open .left)
-    (sym (c .is-open-else-is-open .ensures) ∙ c .if-is-open-2 .left))
+    let m = g .A·System .meaning (c .args .first .now) in
+    let n = g .B·System .meaning (c .args .second .now) in
+    let closed : (m .marks (c .args .p) (c .args .a) || n .marks (c .args .q) (c .args .a)) ≡ false =
+    sym (either-open m n (g .A·System·met .bounded (c .args .first .now)) (g .B·System·met .bounded (c .args .second .now)) (c .args .p) (c .args .q) (c .args .a)
+    (c .from .ensures ∙ c .pre .marks))
+    ∙ sym (c .contains .ensures) ∙ c .if-contains .left in
+    let parts = or-parts _ _ closed in
+    c .unanswered .ensures ∙ ap (lowest _) (closed-unmatched _ _ _ (c .args .p) (c .args .q) (c .args .a) (parts .0) (parts .1))
