@@ -51,6 +51,7 @@ module _ {L : Type 0} (below : L → L → Bool) (m n : Meaning L) where
         → Closes c sheet (Ok v) → History k sheet (is-closed v)
     after-refused-opening : {k : ℕ} {sheet : List Strike} {s : Stage} → History k sheet s
         → (other : Handed) (cells : ℕ) (e : Refusal) → Refuses-opening other cells e → History k sheet s
+    -- of rounds and runs alike
     after-refused-round : {k : ℕ} {sheet : List Strike} {c : Open} → History k sheet (is-open c)
         → (other : Handed) (cells : ℕ) (x : Refused) → Refuses-round c other cells x → History k sheet (is-open (x .comparison))
     after-refused-closing : {k : ℕ} {sheet : List Strike} {c : Open} → History k sheet (is-open c)

@@ -13,7 +13,7 @@ use systems::kinds::RankLabel;
 use systems::system::System;
 
 // opens, does two rounds one at a time, runs on, and closes
-pub fn show_comparison<A: System<Rank>, B: System<Rank>>(
+pub(crate) fn show_comparison<A: System<Rank>, B: System<Rank>>(
     rt: &LibcRuntime,
     title: &str,
     first: &A,

@@ -9,7 +9,7 @@ use systems::masks::contains;
 use systems::system::System;
 
 // what was read: the counts, the start, the moves and the open marks
-pub fn show_system<S: System<Rank>>(
+pub(crate) fn show_system<S: System<Rank>>(
     rt: &LibcRuntime,
     name: &str,
     system: &S,
@@ -53,7 +53,7 @@ fn show_moves(rt: &LibcRuntime, a: u8, targets: u64) -> io::Result<()> {
 }
 
 // three clauses, and the states of both systems that satisfy each
-pub fn show_clauses<A: System<Rank>, B: System<Rank>>(
+pub(crate) fn show_clauses<A: System<Rank>, B: System<Rank>>(
     rt: &LibcRuntime,
     specification: &A,
     design: &B,
@@ -113,7 +113,7 @@ fn show_set(rt: &LibcRuntime, set: u64) -> io::Result<()> {
     println!(rt, "")
 }
 
-pub fn show_fault(rt: &LibcRuntime, fault: Fault) -> io::Result<()> {
+pub(crate) fn show_fault(rt: &LibcRuntime, fault: Fault) -> io::Result<()> {
     let number = fault.cause.number();
     let byte = fault.byte;
     println!(rt, "refused {number} at {byte}")
