@@ -4,7 +4,7 @@ use mathlib.Core.Path.{fun_ext}
 use Rattle.std.proofs.lemmas.List.{get_or-set_same, get_or-set_other, get_or-replicate, get_or_past, length-replicate}
 use Rattle.std.proofs.lemmas.Bool.{cases_order, cases_lt, lt-ltb, le-ltb}
 use Rattle.systems.specs.Sets.{has, set_of}
-use Rattle.systems.specs.SetsLemmas.{has-set_of, has_beyond, has_none, set_of_lt, front_none, front_more}
+use Rattle.systems.proofs.Sets.{has-set_of, has_beyond, has_none, set_of_lt, front_none, front_more}
 use Rattle.preorder.specs.Prebisimulation.{Relation}
 use Rattle.preorder.specs.Strikes.{Cells}
 use Rattle.comparison.specs.Search.{from_round, mask_of, related_in, relation_of, turned}

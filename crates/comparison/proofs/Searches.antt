@@ -6,7 +6,7 @@ use Rattle.std.proofs.lemmas.Bool.{cases_lt, cases_Bool, eqb-true, eq-eqb, and_p
 use Rattle.std.proofs.lemmas.Bool.Decides.{same_from_decides, Decides-not}
 use Rattle.systems.specs.Meaning.{Meaning, Bounded}
 use Rattle.systems.specs.Sets.{has, set_of}
-use Rattle.systems.specs.SetsLemmas.{has_and, has_ext, has_none, has-set_of, set_of_lt, some_decides, has_or}
+use Rattle.systems.proofs.Sets.{has_and, has_ext, has_none, has-set_of, set_of_lt, some_decides, has_or}
 use Rattle.preorder.specs.Prebisimulation.{Relation}
 use Rattle.preorder.specs.Reason.{Reason as Why, first, given, or_else, unanswered, forth_reason, mark_reason, back_reason}
 use Rattle.systems.proofs.Questions.{has_marks}

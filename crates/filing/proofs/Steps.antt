@@ -3,7 +3,7 @@ use Rattle.std.proofs.Common.{◌≡◌, ℕ, ◌+◌, ◌-◌, ◌<◌, ◌≤�
 use Rattle.std.proofs.lemmas.Bool.{ltb-true}
 use Rattle.std.proofs.lemmas.Bool.Decides.{nat_tests}
 use Rattle.systems.specs.Sets.{has, set_of}
-use Rattle.systems.specs.SetsLemmas.{has-set_of}
+use Rattle.systems.proofs.Sets.{has-set_of}
 use Rattle.filing.specs.declared.fault.Cause.{Cause}
 use Rattle.filing.specs.declared.fault.Fault.{Fault}
 use Rattle.filing.specs.declared.filed.Filed.{Filed}

@@ -2,7 +2,7 @@
 use Rattle.std.proofs.Common.{◌≡◌, ℕ, zero, suc, ◌+◌, ◌*◌, ◌<◌, ◌≤◌, Bool, true, false, cond, ◌⊎◌, refl, inl, inr, suc-mul, arith}
 use Rattle.std.proofs.lemmas.Bool.{cases_lt}
 use Rattle.systems.specs.Sets.{count}
-use Rattle.systems.specs.SetsLemmas.{count_bounded}
+use Rattle.systems.proofs.Sets.{count_bounded}
 use Rattle.preorder.specs.Prebisimulation.{Relation}
 use Rattle.preorder.specs.Strikes.{count_pairs}
 

@@ -4,7 +4,7 @@ use Rattle.std.proofs.lemmas.Bool.{cases_lt, cases_Bool, and_parts, and_from, no
 use Rattle.std.proofs.lemmas.Bool.Decides.{not_from_Decides}
 use Rattle.systems.specs.Meaning.{Meaning, Bounded}
 use Rattle.systems.specs.Sets.{some_of}
-use Rattle.systems.specs.SetsLemmas.{some_decides}
+use Rattle.systems.proofs.Sets.{some_decides}
 use Rattle.preorder.specs.Prebisimulation.{Relation, Transfers}
 use Rattle.preorder.specs.Reason.{Reason, or_else, first, given, unanswered, forth_reason, mark_reason, back_reason, reason}
 use Rattle.preorder.proofs.Invariant.{Justified, forth_justified, mark_justified, back_justified}

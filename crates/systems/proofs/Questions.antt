@@ -2,7 +2,7 @@
 use Rattle.std.proofs.Common.{◌≡◌, ℕ, arith}
 use Rattle.systems.specs.Meaning.{Meaning, Bounded}
 use Rattle.systems.specs.Sets.{has, set_of}
-use Rattle.systems.specs.SetsLemmas.{has_set_of_any}
+use Rattle.systems.proofs.Sets.{has_set_of_any}
 
 module _ {L : Type 0} (m : Meaning L) (b : Bounded m) where
   pub has_marks : (p a : ℕ) → has (set_of 32 (m.marks p)) a ≡ m.marks p a

@@ -2,4 +2,3 @@ pub mod Cells
 pub mod Label
 pub mod Meaning
 pub mod Sets
-pub mod SetsLemmas

@@ -10,7 +10,7 @@ use mir.Val.{bool_byte}
 use Rattle.std.proofs.lemmas.Nat.{one_shl}
 use Rattle.std.proofs.lemmas.Bool.{cases_lt}
 use Rattle.systems.specs.Sets.{has, set_of, count}
-use Rattle.systems.specs.SetsLemmas.{front_more, has-set_of, set_of_cong, set_of_or, set_of-has, set_of_single}
+use Rattle.systems.proofs.Sets.{front_more, has-set_of, set_of_cong, set_of_or, set_of-has, set_of_single}
 
 -- two tests that pass in the same cases are equal
 pub same_tests : (x y : Bool) → (x ≡ true → y ≡ true) → (y ≡ true → x ≡ true) → x ≡ y

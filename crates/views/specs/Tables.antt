@@ -9,7 +9,7 @@ use Rattle.std.proofs.lemmas.Nat.{mul-add-lt, div-mul-add, mod-mul-add}
 use Rattle.std.proofs.lemmas.Bool.{cases_eq, cases_lt, lt-ltb, le-ltb, ltb-true, leb-true, and_parts, and_from, cond-true}
 use Rattle.systems.specs.Meaning.{Meaning, Bounded}
 use Rattle.systems.specs.Sets.{has, set_of}
-use Rattle.systems.specs.SetsLemmas.{has-set_of}
+use Rattle.systems.proofs.Sets.{has-set_of}
 use Rattle.views.specs.Masks.{same_tests}
 use Rattle.views.specs.declared.sheets.Shape.{Shape}
 use Rattle.views.specs.Tabled.{written, room, Tables, Tabulates, move_sheet, mark_sheet, label_sheet, by_sheets}

@@ -6,7 +6,7 @@ use Rattle.std.proofs.lemmas.Bool.{lt-ltb, ltb-true, eq-eqb, ne_eqb, and_parts, 
 use Rattle.std.proofs.lemmas.Bool.Decides.{Decides-at}
 use Rattle.systems.specs.Meaning.{Meaning, Bounded}
 use Rattle.systems.specs.Sets.{has, set_of}
-use Rattle.systems.specs.SetsLemmas.{has-set_of, set_of_cong, set_of-has, set_of_lt, set_of_meet, guarded_true, guarded_false, some_cong, some_within}
+use Rattle.systems.proofs.Sets.{has-set_of, set_of_cong, set_of-has, set_of_lt, set_of_meet, guarded_true, guarded_false, some_cong, some_within}
 use Rattle.views.specs.Weak.{overlap, leads, silent_rows, diverging, comes, view_moves, opens, view_marks, view_by, view_over, WeakView}
 use Rattle.views.specs.Rows.{row-silent}
 use Rattle.views.specs.Silence.{silent_decides, diverging_decides, view_correct}

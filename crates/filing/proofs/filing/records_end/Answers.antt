@@ -1,6 +1,6 @@
 use Rattle.std.proofs.Common.{◌≡◌, Ok, Err, sym, ap, ◌∙◌}
 use Rattle.std.proofs.lemmas.Result.{err_from_is_err_and}
-use Rattle.systems.specs.SetsLemmas.{set_of_none}
+use Rattle.systems.proofs.Sets.{set_of_none}
 use Rattle.filing.specs.Format.{entry_at}
 use Rattle.filing.specs.Steps.{fault_at}
 use Rattle.filing.proofs.Steps.{checks_end, checks_fail, checks_less, checks_object, checks_on}

@@ -1,7 +1,7 @@
 use Rattle.std.proofs.Common.{ℕ, ◌-◌, sym, ap, ◌∙◌, arith}
 use Rattle.std.proofs.lemmas.Nat.{one_shl}
 use Rattle.std.proofs.lemmas.Bool.{lt-ltb}
-use Rattle.systems.specs.SetsLemmas.{set_of_below, set_of_cong}
+use Rattle.systems.proofs.Sets.{set_of_below, set_of_cong}
 use Rattle.systems.proofs.masks.all_below.Goals as goal
 
 pub returns-then-n-lt64 : goal.returns-then-n-lt64

@@ -1,5 +1,5 @@
 use Rattle.std.proofs.Common.{arith}
-use Rattle.systems.specs.SetsLemmas.{set_below}
+use Rattle.systems.proofs.Sets.{set_below}
 use Rattle.systems.proofs.masks.as_actions.Goals as goal
 
 pub returns : goal.returns

@@ -2,7 +2,7 @@ use Rattle.std.proofs.Common.{ℕ, eqb, sym, ap, ◌∙◌, arith}
 use lib.Bits.{and_mask}
 use Rattle.std.proofs.lemmas.Bool.{le-ltb}
 use Rattle.systems.specs.Sets.{has}
-use Rattle.systems.specs.SetsLemmas.{has_beyond}
+use Rattle.systems.proofs.Sets.{has_beyond}
 use Rattle.systems.proofs.masks.contains.Goals as goal
 
 pub returns-then-i-lt64 : goal.returns-then-i-lt64

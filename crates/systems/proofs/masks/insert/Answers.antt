@@ -3,7 +3,7 @@ use lib.Bits.{bit_or}
 use Rattle.std.proofs.lemmas.Nat.{one_shl}
 use Rattle.std.proofs.lemmas.Bool.{ne_eqb}
 use Rattle.systems.specs.Sets.{has}
-use Rattle.systems.specs.SetsLemmas.{set_of-has, set_of_or, set_of_single, set_unchanged}
+use Rattle.systems.proofs.Sets.{set_of-has, set_of_or, set_of_single, set_unchanged}
 use Rattle.systems.proofs.masks.insert.Goals as goal
 
 pub returns-then-i-lt64 : goal.returns-then-i-lt64

@@ -1,6 +1,6 @@
 use Rattle.std.proofs.Common.{Bool, ◌&&◌, ◌||◌, eqb, sym, ap, ◌∙◌, arith}
 use Rattle.systems.specs.Sets.{has, set_of}
-use Rattle.systems.specs.SetsLemmas.{set_unchanged}
+use Rattle.systems.proofs.Sets.{set_unchanged}
 use Rattle.systems.proofs.masks.insert_if.Goals as goal
 
 pub returns-then-test : goal.returns-then-test

@@ -1,5 +1,5 @@
 use Rattle.std.proofs.Common.{arith}
-use Rattle.systems.specs.SetsLemmas.{and_contained}
+use Rattle.systems.proofs.Sets.{and_contained}
 use Rattle.systems.proofs.masks.is_within.Goals as goal
 
 pub returns : goal.returns

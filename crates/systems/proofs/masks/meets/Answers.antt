@@ -1,5 +1,5 @@
 use Rattle.std.proofs.Common.{sym, arith}
-use Rattle.systems.specs.SetsLemmas.{some_and}
+use Rattle.systems.proofs.Sets.{some_and}
 use Rattle.systems.proofs.masks.meets.Goals as goal
 
 pub returns : goal.returns

@@ -1,5 +1,5 @@
 use Rattle.std.proofs.Common.{sym, ◌∙◌}
-use Rattle.systems.specs.SetsLemmas.{set_of-has}
+use Rattle.systems.proofs.Sets.{set_of-has}
 use Rattle.views.specs.Rows.{leads_none, leads_more}
 use Rattle.views.proofs.closure.join.Goals as goal
 

@@ -1,6 +1,6 @@
 use Rattle.std.proofs.Common.{◌&&◌, ltb, sym, ap, ◌∙◌, arith}
 use Rattle.systems.specs.Sets.{set_of}
-use Rattle.systems.specs.SetsLemmas.{front_none}
+use Rattle.systems.proofs.Sets.{front_none}
 use Rattle.views.specs.Weak.{loops}
 use Rattle.views.specs.Masks.{set_more}
 use Rattle.views.specs.Rows.{loops-found, loops-all}

@@ -1,6 +1,6 @@
 use Rattle.std.proofs.Common.{◌-◌, ◌^◌, ◌<◌, ltb, sym, ap, ◌∙◌, subst, arith}
 use Rattle.std.proofs.lemmas.Nat.{one_shl}
-use Rattle.systems.specs.SetsLemmas.{set_of_lt, set_of_below}
+use Rattle.systems.proofs.Sets.{set_of_lt, set_of_below}
 use Rattle.views.proofs.sets.actions_below.Goals as goal
 
 pub returns : goal.returns

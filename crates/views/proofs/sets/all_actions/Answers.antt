@@ -1,6 +1,6 @@
 use Rattle.std.proofs.Common.{sym, ◌∙◌}
 use Rattle.std.proofs.lemmas.Bool.{lt-ltb, le-ltb}
-use Rattle.systems.specs.SetsLemmas.{guarded_true, guarded_false}
+use Rattle.systems.proofs.Sets.{guarded_true, guarded_false}
 use Rattle.views.specs.Layers.{present}
 use Rattle.views.proofs.sets.all_actions.Goals as goal
 

@@ -1,6 +1,6 @@
 use Rattle.std.proofs.Common.{sym, ◌∙◌, arith}
 use Rattle.std.proofs.lemmas.Bool.{le-ltb}
-use Rattle.systems.specs.SetsLemmas.{front_none}
+use Rattle.systems.proofs.Sets.{front_none}
 use Rattle.views.specs.Masks.{set_more}
 use Rattle.views.specs.Viewing.{opens-found, marks_found, marks_absent}
 use Rattle.views.proofs.weak.weak_open.Goals as goal

@@ -1,6 +1,6 @@
 use Rattle.std.proofs.Common.{sym, ap, ◌∙◌, arith}
 use Rattle.systems.specs.Sets.{set_of}
-use Rattle.systems.specs.SetsLemmas.{set_of_none, set_of_lt}
+use Rattle.systems.proofs.Sets.{set_of_none, set_of_lt}
 use Rattle.filing.specs.Accepted.{meaning_at}
 use Rattle.filing.specs.Contents.{mark_in, says_mark}
 use Rattle.filing.proofs.Asking.{filed-fits, filed_meaning, filed_bounded, asks_less, asks_on, asks_all}

@@ -1,6 +1,6 @@
 use Rattle.std.proofs.Common.{sym, ap, ◌∙◌, arith}
 use Rattle.systems.specs.Sets.{set_of}
-use Rattle.systems.specs.SetsLemmas.{set_of_none}
+use Rattle.systems.proofs.Sets.{set_of_none}
 use Rattle.filing.specs.Contents.{move_in, says_move}
 use Rattle.filing.proofs.Asking.{filed-fits, filed_meaning, asks_less, asks_on, asks_all}
 use Rattle.filing.proofs.Says.{set_more}

@@ -1,5 +1,5 @@
 use Rattle.std.proofs.Common.{sym}
-use Rattle.systems.specs.SetsLemmas.{set_of_none}
+use Rattle.systems.proofs.Sets.{set_of_none}
 use Rattle.views.proofs.layers.AllClosedSystem.open_on.Goals as goal
 
 pub returns : goal.returns

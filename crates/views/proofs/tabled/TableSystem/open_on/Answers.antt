@@ -1,7 +1,7 @@
 use Rattle.std.proofs.Common.{◌≡◌, ◌^◌, ◌<◌, sym, ◌∙◌, subst, ap₂, arith}
 use lib.Bits.{bit_and}
 use Rattle.std.proofs.lemmas.Bool.{lt-ltb, le-ltb}
-use Rattle.systems.specs.SetsLemmas.{set_of_meet, guarded_true, guarded_false}
+use Rattle.systems.proofs.Sets.{set_of_meet, guarded_true, guarded_false}
 use Rattle.views.proofs.tabled.TableSystem.open_on.Goals as goal
 
 pub returns-then-p-self : goal.returns-then-p-self

@@ -1,7 +1,7 @@
 use Rattle.std.proofs.Common.{◌≡◌, ◌^◌, ◌<◌, false, ◌&&◌, ltb, sym, ◌∙◌, subst, ap₂, arith}
 use lib.Bits.{bit_and}
 use Rattle.std.proofs.lemmas.Bool.{lt-ltb, le-ltb, and_from, and_left, and_right}
-use Rattle.systems.specs.SetsLemmas.{set_of_meet, guarded_true, guarded_false}
+use Rattle.systems.proofs.Sets.{set_of_meet, guarded_true, guarded_false}
 use Rattle.views.proofs.tabled.TableSystem.reach.Goals as goal
 use Rattle.views.proofs.tabled.TableSystem.reach.Goals.{then-p-self-via-then-p-self, then-p-self-via-else-p-self+then-a-self}
 
