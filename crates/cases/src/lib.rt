@@ -1,4 +1,6 @@
 // Worked cases and refusals, run as tests.
+#![tactic(auto)]
+
 #[cfg(test)]
 mod comparison_cases;
 #[cfg(test)]

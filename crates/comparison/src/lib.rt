@@ -1,4 +1,6 @@
 // Comparing two systems: opening, rounds, runs and closing over a sheet of strikes.
+#![tactic(auto)]
+
 mod back;
 mod checks;
 pub mod closing;

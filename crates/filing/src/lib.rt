@@ -1,4 +1,6 @@
 // Systems from file bytes: the format's records, filing, and the filed system.
+#![tactic(auto)]
+
 pub mod fault;
 pub mod filed;
 pub mod filing;

@@ -5,7 +5,8 @@ use Rattle.systems.specs.Meaning.{Meaning, Bounded}
 use Rattle.systems.specs.Sets.{has, set_of, some_of, contained}
 use Rattle.formulas.specs.NodeSets.{states_where, can_enter, must_enter}
 use Rattle.systems.proofs.Questions.{has_marks, has_reach}
-use Rattle.systems.proofs.Sets.{decides_implies, some_cong, some_within, every_cong, every_within, front_none, front_more}
+use Rattle.systems.specs.Containment.{decides_implies}
+use Rattle.systems.proofs.Sets.{some_cong, some_within, every_cong, every_within, front_none, front_more}
 
 -- the set of the first n states that pass a test
 abbrev pub states_first : ℕ → (ℕ → Bool) → ℕ

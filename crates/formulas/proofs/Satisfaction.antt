@@ -6,7 +6,8 @@ use Rattle.std.proofs.lemmas.Bool.{false≢true, lt-ltb, ltb-true, leb-false, an
 use Rattle.std.proofs.lemmas.Bool.Decides.{Decides-at, Decides-and, Decides-or, Decides-like}
 use Rattle.systems.specs.Meaning.{Meaning, Bounded}
 use Rattle.systems.specs.Sets.{has, set_of}
-use Rattle.systems.proofs.Sets.{set_of_cong, set_of_and, set_of_or, set_of_none, every_decides, some_decides, has_set_of_any, decides_implies, some_cong, every_cong}
+use Rattle.systems.specs.Containment.{every_decides, decides_implies}
+use Rattle.systems.proofs.Sets.{set_of_cong, set_of_and, set_of_or, set_of_none, some_decides, has_set_of_any, some_cong, every_cong}
 use Rattle.formulas.specs.Formula.{Formula, top, bottom, labelled, both, either, diamond, box, Satisfies}
 use Rattle.formulas.specs.Sheet.{formula, faulty}
 use Rattle.formulas.specs.NodeSets.{states_where, can_enter, must_enter, node_set}

@@ -7,13 +7,10 @@ use Rattle.std.proofs.Math.Dec.{eqb-suc-suc, eqb-zero-suc, eqb-suc-zero}
 use Rattle.std.specs.Int.Bits.{and_lt}
 use Rattle.std.proofs.Math.Pow.{pow-lt}
 use Rattle.std.proofs.lemmas.Nat.{and_shr, or_shr, and_comm, and_mod, or_mod, and_le_l, or_lt}
-use Rattle.std.proofs.lemmas.Bool.{eqb-true, eq-eqb, ne_eqb, lt-ltb, le-ltb, ltb-true, true≢false, false≢true, and_parts, not-true, not_from_false, cases_lt}
-use Rattle.std.proofs.lemmas.Bool.Decides.{nat_tests, Decides-below_and, Decides-below_or, Decides-like, same_from_decides}
+use Rattle.std.proofs.lemmas.Bool.{eqb-true, eq-eqb, ne_eqb, lt-ltb, le-ltb, ltb-true, true≢false, and_parts, not-true, not_from_false, cases_lt}
+use Rattle.std.proofs.lemmas.Bool.Decides.{nat_tests, Decides-below_or, Decides-like, same_from_decides}
+use Rattle.systems.specs.Containment.{every_decides, contained_decides}
 use Rattle.systems.specs.Sets.{has, set_of, every, some_of, count, contained}
-
-pub decides_implies : (x y : Bool) → Decides (not x || y) (x ≡ true → y ≡ true)
-decides_implies true y = (λ e h. e, λ f. f refl)
-decides_implies false y = (λ e h. absurd (false≢true h), λ f. refl)
 
 -- ---- one bit
 
@@ -171,27 +168,11 @@ set_of_none w = has_ext w _ _ (set_of_lt w _) (pow_pos w) (λ i h. has-set_of w 
 
 -- ---- tests over all numbers below a bound
 
-pub every_decides : (w : ℕ) (f : ℕ → Bool) → Decides (every w f) ((i : ℕ) → i < w → f i ≡ true)
-unfolding every
-every_decides w f = Decides-below_and f (λ i. f i ≡ true) (λ n. every n f) (λ k. (λ e. e, λ e. e)) refl (λ n. refl) w
-
 pub some_decides : (w : ℕ) (f : ℕ → Bool) → Decides (some_of w f) ((i : ℕ) × (i < w) × (f i ≡ true))
 unfolding some_of
 some_decides w f = Decides-below_or f (λ i. f i ≡ true) (λ n. some_of n f) (λ k. (λ e. e, λ e. e)) refl (λ n. refl) w
 
 -- ---- containment
-
-pub contained_decides : (w a b : ℕ) → Decides (contained w a b) ((i : ℕ) → i < w → has a i ≡ true → has b i ≡ true)
-unfolding contained
-contained_decides w a b =
-    let each = every_decides w (λ i. not (has a i) || has b i) in
-    (λ e i h t. (decides_implies (has a i) (has b i)).0 (each.0 e i h) t, λ k. each.1 (λ i h. (decides_implies (has a i) (has b i)).1 (k i h)))
-
-pub contained_refl : (w a : ℕ) → contained w a a ≡ true
-contained_refl w a = (contained_decides w a a).1 (λ i h t. t)
-
-pub contained_trans : (w a b c : ℕ) → contained w a b ≡ true → contained w b c ≡ true → contained w a c ≡ true
-contained_trans w a b c p q = (contained_decides w a c).1 (λ i h t. (contained_decides w b c).0 q i h ((contained_decides w a b).0 p i h t))
 
 -- a set is contained in another exactly if their meet is the set itself
 pub and_contained : (w a b : ℕ) → a < 2 ^ w → b < 2 ^ w → (bit_and a b == a) ≡ contained w a b

@@ -1,4 +1,5 @@
 pub mod Cells
+pub mod Containment
 pub mod Label
 pub mod Meaning
 pub mod Sets

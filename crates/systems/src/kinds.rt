@@ -3,7 +3,7 @@ ghost use Rattle.std.specs.Prelude.{◌≡◌, ◌*◌, ◌^◌, ◌<◌, ◌≤
 ghost use Rattle.systems.specs.Label.{number_of};
 ghost use Rattle.systems.specs.Sets.{contained};
 ghost use Rattle.std.proofs.Common.{rules};
-ghost use Rattle.systems.proofs.Sets.{contained_refl, contained_trans};
+ghost use Rattle.systems.specs.Containment.{contained_refl, contained_trans};
 
 use crate::label::Label;
 use crate::masks::is_within;

@@ -1,4 +1,6 @@
 // Views of a system that are systems again: the open and the closed layer, the weak view, and the tabled system.
+#![tactic(auto)]
+
 mod closure;
 pub mod laws;
 pub mod layers;

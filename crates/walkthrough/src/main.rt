@@ -1,4 +1,6 @@
 // A door reader with its barrier: the house's specification and a supplier's design, from file bytes to answers.
+#![tactic(auto)]
+
 mod compare;
 mod equipment;
 mod report;

@@ -3,7 +3,7 @@ use Rattle.comparison.proofs.Searches.{back_none, back_some}
 use Rattle.comparison.proofs.back.back.Goals as goal
 
 pub loop-action-preserved : goal.loop-action-preserved
-loop-action-preserved g c = below_more _ _ c.loop-action.invariant (sym c.unmatched.ensures ∙ c.in-default.is)
+loop-action-preserved g c = below_more _ _ c.loop-action.invariant (sym c.unmatched.ensures ∙ c.in_default.is)
 
 pub returns-in-Some : goal.returns-in-Some
 returns-in-Some g c =

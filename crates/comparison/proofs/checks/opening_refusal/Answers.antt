@@ -21,7 +21,7 @@ pub returns-then-actions : goal.returns-then-actions
 returns-then-actions g c = when_differ _ _ (omega arith)
 
 pub returns-then-cells-pairs : goal.returns-then-cells-pairs
-returns-then-cells-pairs g c = let all = c.pairs.ensures ∙ ap pairs c.shape-of.ensures in when_short _ _ (omega arith) (omega arith)
+returns-then-cells-pairs g c = let all = c.pairs.ensures ∙ ap pairs c.shape_of.ensures in when_short _ _ (omega arith) (omega arith)
 
 pub returns : goal.returns
-returns g c = let all = c.pairs.ensures ∙ ap pairs c.shape-of.ensures in when_fine _ _ (omega arith) (omega arith)
+returns g c = let all = c.pairs.ensures ∙ ap pairs c.shape_of.ensures in when_fine _ _ (omega arith) (omega arith)

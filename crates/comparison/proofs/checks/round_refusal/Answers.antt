@@ -27,19 +27,19 @@ module _ (o : Open) (h : Handed) (cells : ℕ) where
     unfolding round_refusal
     when_fine le moving few = rw (fit, le-ltb _ _ le, moving, lt-leb _ _ few)
 
-pub returns-then-not-same-systems : goal.returns-then-not-same-systems
-returns-then-not-same-systems g c = when_others _ _ _ (sym c.same-systems.ensures ∙ c.if-not-same-systems.true)
+pub returns-then-not-same_systems : goal.returns-then-not-same_systems
+returns-then-not-same_systems g c = when_others _ _ _ (sym c.same_systems.ensures ∙ c.if-not-same_systems.true)
 
 pub returns-then-cells-pairs : goal.returns-then-cells-pairs
-returns-then-cells-pairs g c = when_short _ _ _ (sym c.same-systems.ensures ∙ c.if-not-same-systems.false) (omega arith)
+returns-then-cells-pairs g c = when_short _ _ _ (sym c.same_systems.ensures ∙ c.if-not-same_systems.false) (omega arith)
 
 pub returns-then-comparison : goal.returns-then-comparison
-returns-then-comparison g c = when_still _ _ _ (sym c.same-systems.ensures ∙ c.if-not-same-systems.false) (omega arith) c.if-comparison.true
+returns-then-comparison g c = when_still _ _ _ (sym c.same_systems.ensures ∙ c.if-not-same_systems.false) (omega arith) c.if-comparison.true
 
 pub returns-then-comparison-ge-MOST-ROUNDS : goal.returns-then-comparison-ge-MOST-ROUNDS
 returns-then-comparison-ge-MOST-ROUNDS g c =
-    when_spent _ _ _ (sym c.same-systems.ensures ∙ c.if-not-same-systems.false) (omega arith) c.if-comparison.false (omega arith)
+    when_spent _ _ _ (sym c.same_systems.ensures ∙ c.if-not-same_systems.false) (omega arith) c.if-comparison.false (omega arith)
 
 pub returns : goal.returns
 returns g c =
-    when_fine _ _ _ (sym c.same-systems.ensures ∙ c.if-not-same-systems.false) (omega arith) c.if-comparison.false (omega arith)
+    when_fine _ _ _ (sym c.same_systems.ensures ∙ c.if-not-same_systems.false) (omega arith) c.if-comparison.false (omega arith)

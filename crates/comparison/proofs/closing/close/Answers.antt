@@ -37,12 +37,12 @@ returns-then-sheet-pairs c = (when_short _ _ (omega arith), refl)
 
 pub returns-then-start-rounds : goal.returns-then-start-rounds
 returns-then-start-rounds c =
-    when_struck _ _ (omega arith) (start_is c.args.comparison _ _ _ c.grid.ensures c.strike-at-start.ensures ∙ le-leb _ _ c.if-start-rounds.true)
+    when_struck _ _ (omega arith) (start_is c.args.comparison _ _ _ c.grid.ensures c.strike_at-start.ensures ∙ le-leb _ _ c.if-start-rounds.true)
 
 pub returns-then-comparison : goal.returns-then-comparison
 returns-then-comparison c =
-    when_still _ _ (omega arith) (start_is c.args.comparison _ _ _ c.grid.ensures c.strike-at-start.ensures ∙ lt-leb _ _ c.if-start-rounds.false) c.if-comparison.true
+    when_still _ _ (omega arith) (start_is c.args.comparison _ _ _ c.grid.ensures c.strike_at-start.ensures ∙ lt-leb _ _ c.if-start-rounds.false) c.if-comparison.true
 
 pub returns : goal.returns
 returns c =
-    (when_moving _ _ (omega arith) (start_is c.args.comparison _ _ _ c.grid.ensures c.strike-at-start.ensures ∙ lt-leb _ _ c.if-start-rounds.false) c.if-comparison.false, refl)
+    (when_moving _ _ (omega arith) (start_is c.args.comparison _ _ _ c.grid.ensures c.strike_at-start.ensures ∙ lt-leb _ _ c.if-start-rounds.false) c.if-comparison.false, refl)

@@ -3,7 +3,7 @@ use Rattle.comparison.proofs.Searches.{forth_none, forth_some}
 use Rattle.comparison.proofs.forth.forth.Goals as goal
 
 pub loop-action-preserved : goal.loop-action-preserved
-loop-action-preserved g c = below_more _ _ c.loop-action.invariant (sym c.unanswered.ensures ∙ c.in-default.is)
+loop-action-preserved g c = below_more _ _ c.loop-action.invariant (sym c.unanswered.ensures ∙ c.in_default.is)
 
 pub returns-in-Some : goal.returns-in-Some
 returns-in-Some g c =

@@ -17,16 +17,16 @@ tested mover other bm bo masks p q a t i reached answers lost lt small same from
 pub loop-t-preserved : goal.loop-t-preserved
 loop-t-preserved g c =
     below_more _ _ c.loop-t.invariant
-    (tested _ _ (g.met.M.System.bounded _) (g.met.O.System.bounded _) _ _ _ _ _ _ _ _ _ (omega arith) (c.type-inv.related _).fits c.from.ensures
-    c.reach-reached.ensures c.reach-answers.ensures c.is-lost.ensures
-    ∙ c.if-is-lost.false)
+    (tested _ _ (g.met.M.System.bounded _) (g.met.O.System.bounded _) _ _ _ _ _ _ _ _ _ (omega arith) (c.type_inv.related _).fits c.from.ensures
+    c.reach-reached.ensures c.reach-answers.ensures c.is_lost.ensures
+    ∙ c.if-is_lost.false)
 
-pub returns-then-is-lost : goal.returns-then-is-lost
-returns-then-is-lost g c =
+pub returns-then-is_lost : goal.returns-then-is_lost
+returns-then-is_lost g c =
     sym (lowest_some _ _ c.loop-t.t (omega arith) c.loop-t.invariant
-    (tested _ _ (g.met.M.System.bounded _) (g.met.O.System.bounded _) _ _ _ _ _ _ _ _ _ (omega arith) (c.type-inv.related _).fits c.from.ensures
-    c.reach-reached.ensures c.reach-answers.ensures c.is-lost.ensures
-    ∙ c.if-is-lost.true))
+    (tested _ _ (g.met.M.System.bounded _) (g.met.O.System.bounded _) _ _ _ _ _ _ _ _ _ (omega arith) (c.type_inv.related _).fits c.from.ensures
+    c.reach-reached.ensures c.reach-answers.ensures c.is_lost.ensures
+    ∙ c.if-is_lost.true))
 
 pub returns : goal.returns
 returns g c = let all : c.loop-t.t ≡ c.states-t-end.result = omega arith in sym (lowest_none _ _ (rw (all ∙ c.states-t-end.ensures) at c.loop-t.invariant))

@@ -34,7 +34,7 @@ pub loop-p-init : goal.loop-p-init
 loop-p-init g c = laid_none _ (opened_strike _ _ _) _
 
 pub loop-p-preserved : goal.loop-p-preserved
-loop-p-preserved g c = laid_more c.grid-grid.result.width (opened_strike _ _ _) _ c.loop-p.p _ _ _ c.loop-p.invariant c.open-row.ensures (λ q h. refl)
+loop-p-preserved g c = laid_more c.grid-grid.result.width (opened_strike _ _ _) _ c.loop-p.p _ _ _ c.loop-p.invariant c.open_row.ensures (λ q h. refl)
 
 pub returns-in-Some : goal.returns-in-Some
 unfolding Opens
@@ -45,7 +45,7 @@ returns-in-Some g c = record {
 
 pub returns : goal.returns
 returns g c = record {
-  step = all_rows _ _ _ _ _ c.loop-p.p _ _ (sym c.opening_refusal.ensures ∙ c.in-default.is) c.shape-of-shape.ensures
+  step = all_rows _ _ _ _ _ c.loop-p.p _ _ (sym c.opening_refusal.ensures ∙ c.in_default.is) c.shape_of-shape.ensures
       c.grid-grid.ensures (omega arith) c.loop-p.invariant;
   law = every_history _ _ _ g.met.L.Label.order (g.met.A.System.bounded c.args.first.now) (g.met.B.System.bounded c.args.second.now);
 }

@@ -32,9 +32,9 @@ returns-in-Some g c = when_forth _ _ _ _ _ _ c.requires.same _ (sym c.forth.ensu
 
 pub returns-in-Some-mark : goal.returns-in-Some-mark
 returns-in-Some-mark g c =
-    when_mark _ _ _ _ _ _ c.requires.same _ (sym c.forth.ensures ∙ c.in-default.is) (sym (c.mark.ensures _) ∙ c.in-Some-mark.is)
+    when_mark _ _ _ _ _ _ c.requires.same _ (sym c.forth.ensures ∙ c.in_default.is) (sym (c.mark.ensures _) ∙ c.in-Some-mark.is)
 
 pub returns : goal.returns
 returns g c =
     c.back.ensures
-    ∙ when_back _ _ _ _ _ _ c.requires.same (sym c.forth.ensures ∙ c.in-default.is) (sym (c.mark.ensures _) ∙ c.in-default-mark.is)
+    ∙ when_back _ _ _ _ _ _ c.requires.same (sym c.forth.ensures ∙ c.in_default.is) (sym (c.mark.ensures _) ∙ c.in_default-mark.is)

@@ -8,4 +8,4 @@ loop-q-init c = (refl, filled_none 64 _ _)
 pub returns : goal.returns
 returns c =
     let all : c.loop-q.q ≡ 64 = omega arith in
-    turned_table c.args.rows.now c.loop-q.columns c.requires (λ i. (c.type-inv.rows i).fits) (rw all at c.loop-q.invariant.1)
+    turned_table c.args.rows.now c.loop-q.columns c.requires (λ i. (c.type_inv.rows i).fits) (rw all at c.loop-q.invariant.1)

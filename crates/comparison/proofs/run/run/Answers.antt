@@ -11,11 +11,11 @@ returns-in-Some g c = ((sym c.round_refusal.ensures ∙ c.in-Some.is, refl), ref
 
 pub loop-done-init : goal.loop-done-init
 loop-done-init g c =
-    let accepted = round_accepted _ _ _ (sym c.round_refusal.ensures ∙ c.in-default.is) in
+    let accepted = round_accepted _ _ _ (sym c.round_refusal.ensures ∙ c.in_default.is) in
     running_starts _ _ _ c.args.allowance _ _ (omega (arith, accepted.1))
 
-pub overflow-add-struck : goal.overflow-add-struck
-overflow-add-struck g c =
+pub overflow_add-struck : goal.overflow_add-struck
+overflow_add-struck g c =
     let few = strikes_few _ _ _ (g.met.A.System.bounded _) (g.met.B.System.bounded _) _ _ _ c.loop-done.invariant in
     let more = c.advance-more.ensures.struck in
     omega arith
@@ -27,15 +27,15 @@ loop-done-preserved g c =
 
 pub returns-else-stage-lt-MOST-ROUNDS : goal.returns-else-stage-lt-MOST-ROUNDS
 returns-else-stage-lt-MOST-ROUNDS g c =
-    run_answers _ _ _ (g.met.A.System.bounded _) (g.met.B.System.bounded _) _ _ _ _ (sym c.round_refusal.ensures ∙ c.in-default.is) c.loop-done.invariant
+    run_answers _ _ _ (g.met.A.System.bounded _) (g.met.B.System.bounded _) _ _ _ _ (sym c.round_refusal.ensures ∙ c.in_default.is) c.loop-done.invariant
     (inr (or_right c.loop-done.stage.still _ (le-leb 4097 _ (omega arith))))
 
 pub returns-else-not-stage : goal.returns-else-not-stage
 returns-else-not-stage g c =
-    run_answers _ _ _ (g.met.A.System.bounded _) (g.met.B.System.bounded _) _ _ _ _ (sym c.round_refusal.ensures ∙ c.in-default.is) c.loop-done.invariant
+    run_answers _ _ _ (g.met.A.System.bounded _) (g.met.B.System.bounded _) _ _ _ _ (sym c.round_refusal.ensures ∙ c.in_default.is) c.loop-done.invariant
     (inr (or_left c.loop-done.stage.still _ (not-false _ c.if-not-stage.false)))
 
 pub returns-after-loop-done : goal.returns-after-loop-done
 returns-after-loop-done g c =
-    run_answers _ _ _ (g.met.A.System.bounded _) (g.met.B.System.bounded _) _ _ _ _ (sym c.round_refusal.ensures ∙ c.in-default.is) c.loop-done.invariant
+    run_answers _ _ _ (g.met.A.System.bounded _) (g.met.B.System.bounded _) _ _ _ _ (sym c.round_refusal.ensures ∙ c.in_default.is) c.loop-done.invariant
     (inl (omega arith))

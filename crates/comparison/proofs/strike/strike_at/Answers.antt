@@ -12,4 +12,4 @@ nth_or (x ∷ xs) (suc i) d = nth_or xs i d
 pub returns : goal.returns
 unfolding cells_of
 returns c =
-    c.unwrap-or.ensures ∙ ap (λ (o : Option Strike). unwrap_or o blank_strike) c.get.ensures ∙ nth_or c.args.sheet.now _ blank_strike
+    c.unwrap_or.ensures ∙ ap (λ (o : Option Strike). unwrap_or o blank_strike) c.get.ensures ∙ nth_or c.args.sheet.now _ blank_strike

@@ -36,13 +36,13 @@ pub returns-then-not-contains : goal.returns-then-not-contains
 returns-then-not-contains g c =
     when_unrelated _ _ _ _ _ _ (tested _ _ _ _ _ c.contains.ensures c.from.ensures ∙ c.if-not-contains.true)
 
-pub returns-in-err-reason : goal.returns-in-err-reason
-returns-in-err-reason g c =
-    c.from-residual.ensures
+pub returns-in_err-reason : goal.returns-in_err-reason
+returns-in_err-reason g c =
+    c.from_residual.ensures
     ∙ when_related _ _ _ _ _ _ (tested _ _ _ _ _ c.contains.ensures c.from.ensures ∙ c.if-not-contains.false) None
-    (sym c.in-err-reason.was ∙ c.first-reason.ensures)
+    (sym c.in_err-reason.was ∙ c.first_reason.ensures)
 
 pub returns : goal.returns
 returns g c =
-    when_related _ _ _ _ _ _ (tested _ _ _ _ _ c.contains.ensures c.from.ensures ∙ c.if-not-contains.false) (Some c.in-ok-reason.reason)
-    (sym c.in-ok-reason.was ∙ c.first-reason.ensures)
+    when_related _ _ _ _ _ _ (tested _ _ _ _ _ c.contains.ensures c.from.ensures ∙ c.if-not-contains.false) (Some c.in_ok-reason.reason)
+    (sym c.in_ok-reason.was ∙ c.first_reason.ensures)

@@ -10,7 +10,7 @@ use Rattle.comparison.specs.Sheet.{blank_strike, cells_of, strike_of}
 use Rattle.comparison.proofs.Counts.{count_more, count_same, count_few}
 use Rattle.comparison.proofs.Rows.{row_filled_none, row_filled_more, row_filled_kept}
 use Rattle.comparison.proofs.striking.strike_row.Goals as goal
-use Rattle.comparison.proofs.striking.strike_row.Goals.{in-Some, in-default}
+use Rattle.comparison.proofs.striking.strike_row.Goals.{in-Some, in_default}
 
 struck_some : (k : ℕ) (o : Option Why) (s : Strike) → strike_for k o ≡ Some s → is_some o ≡ true
 unfolding strike_for
@@ -50,13 +50,13 @@ loop-q-init g c = (refl, sym (row_filled_none _ _ _ _))
 
 pub loop-q-preserved : goal.loop-q-preserved
 loop-q-preserved g c =
-    elim c.match-strike-of.branch [
+    elim c.match-strike_of.branch [
       | in-Some w ↦ step_struck _ _ _ _ _ _ _ _ _ _ _ _ c.loop-q.invariant w.in-Some.strike (sym c.strike_of.ensures ∙ w.in-Some.is) w.struck-is (w.sheet-is ∙ w.set.ensures)
-      | in-default w ↦ step_kept _ _ _ _ _ _ _ _ _ _ _ _ c.loop-q.invariant (sym c.strike_of.ensures ∙ w.in-default.is) w.struck-is w.sheet-is
+      | in_default w ↦ step_kept _ _ _ _ _ _ _ _ _ _ _ _ c.loop-q.invariant (sym c.strike_of.ensures ∙ w.in_default.is) w.struck-is w.sheet-is
     ]
 
-pub overflow-add-struck : goal.overflow-add-struck
-overflow-add-struck g c = let few = count_few _ c.loop-q.q _ c.loop-q.invariant.0 in omega arith
+pub overflow_add-struck : goal.overflow_add-struck
+overflow_add-struck g c = let few = count_few _ c.loop-q.q _ c.loop-q.invariant.0 in omega arith
 
 pub returns : goal.returns
 returns g c =

@@ -40,11 +40,11 @@ unfolding count_pairs
 loop-p-init g c = (refl, laid_none _ (strike_over _ _ _ _ _) _)
 
 pub loop-p-preserved : goal.loop-p-preserved
-loop-p-preserved g c = one_more_row _ _ _ _ _ _ _ _ _ _ c.loop-p.invariant c.strike-row-struck.ensures.struck c.strike-row-struck.ensures.cells
+loop-p-preserved g c = one_more_row _ _ _ _ _ _ _ _ _ _ c.loop-p.invariant c.strike_row-struck.ensures.struck c.strike_row-struck.ensures.cells
 
-pub overflow-add-struck : goal.overflow-add-struck
-overflow-add-struck g c =
-    let done = one_more_row _ _ _ _ _ _ _ _ _ _ c.loop-p.invariant c.strike-row-struck.ensures.struck c.strike-row-struck.ensures.cells in
+pub overflow_add-struck : goal.overflow_add-struck
+overflow_add-struck g c =
+    let done = one_more_row _ _ _ _ _ _ _ _ _ _ c.loop-p.invariant c.strike_row-struck.ensures.struck c.strike_row-struck.ensures.cells in
     let few = pairs_few _ (c.loop-p.p + 1) _ _ done.0 (omega (arith, (g.met.A.System.bounded c.args.first.now).few_states)) (g.met.B.System.bounded c.args.second.now).few_states in
     omega arith
 

@@ -9,5 +9,5 @@ returns-else-state-p g c =
     set_unchanged c.args.set _ c.ranges.set.fits
     (λ a. ap (λ r. says_mark r c.args.p a) c.in-Open.is ∙ grind (arith, nat_tests))
 
-pub returns-in-default : goal.returns-in-default
-returns-in-default g c = set_unchanged c.args.set _ c.ranges.set.fits (no_mark _ c.in-default.not-Open _)
+pub returns-in_default : goal.returns-in_default
+returns-in_default g c = set_unchanged c.args.set _ c.ranges.set.fits (no_mark _ c.in_default.not-Open _)

@@ -9,5 +9,5 @@ returns-else-from-p g c =
     set_unchanged c.args.set _ c.ranges.set.fits
     (λ t. ap (λ r. says_move r c.args.p c.args.a t) c.in-Move.is ∙ grind (arith, nat_tests))
 
-pub returns-in-default : goal.returns-in-default
-returns-in-default g c = set_unchanged c.args.set _ c.ranges.set.fits (no_move _ c.in-default.not-Move _ _)
+pub returns-in_default : goal.returns-in_default
+returns-in_default g c = set_unchanged c.args.set _ c.ranges.set.fits (no_move _ c.in_default.not-Move _ _)

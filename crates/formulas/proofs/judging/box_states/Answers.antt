@@ -2,7 +2,7 @@ use Rattle.std.proofs.Common.{arith}
 use Rattle.formulas.specs.NodeSets.{must_enter}
 use Rattle.formulas.proofs.NodeSets.{first_none, first_in, first_out, first-all}
 use Rattle.formulas.proofs.judging.box_states.Goals as goal
-use Rattle.formulas.proofs.judging.box_states.Goals.{then-must-enter, else-must-enter}
+use Rattle.formulas.proofs.judging.box_states.Goals.{then-must_enter, else-must_enter}
 
 pub loop-p-init : goal.loop-p-init
 loop-p-init g c = first_none (must_enter (g.S.System.meaning c.args.system.now) c.args.action c.args.set)
@@ -13,9 +13,9 @@ loop-p-preserved g c =
     let m = g.S.System.meaning s in
     let f = must_enter m c.args.action c.args.set in
     let p = c.loop-p.p in
-    elim c.if-must-enter.branch [
-      | then-must-enter w ↦ first_in f p c.loop-p.invariant c.must_enter.ensures w.if-must-enter.true w.found-is w.insert-found.ensures
-      | else-must-enter w ↦ first_out f p c.loop-p.invariant c.must_enter.ensures w.if-must-enter.false w.found-is
+    elim c.if-must_enter.branch [
+      | then-must_enter w ↦ first_in f p c.loop-p.invariant c.must_enter.ensures w.if-must_enter.true w.found-is w.insert-found.ensures
+      | else-must_enter w ↦ first_out f p c.loop-p.invariant c.must_enter.ensures w.if-must_enter.false w.found-is
     ]
 
 pub returns : goal.returns

@@ -8,6 +8,6 @@ returns g c =
     let judges = judged_judges g.L.Label.below (g.S.System.meaning s) (g.met.S.System.bounded s) in
     record {
       answer = search rules;
-      sheet = c.write-sets.ensures;
-      judges = λ e. judges c.args.nodes.now c.args.answers.now c.write-sets.new.answers c.write-sets.ensures;
+      sheet = c.write_sets.ensures;
+      judges = λ e. judges c.args.nodes.now c.args.answers.now c.write_sets.new.answers c.write_sets.ensures;
     }

@@ -1,7 +1,7 @@
 use Rattle.std.proofs.Common.{ℕ, Bool, arith}
 use Rattle.formulas.proofs.NodeSets.{first_none, first_in, first_out, first-all}
 use Rattle.formulas.proofs.judging.labelled_states.Goals as goal
-use Rattle.formulas.proofs.judging.labelled_states.Goals.{then-is-labelled, else-is-labelled}
+use Rattle.formulas.proofs.judging.labelled_states.Goals.{then-is_labelled, else-is_labelled}
 
 pub loop-p-init : goal.loop-p-init
 loop-p-init g c = first_none (λ p. g.L.Label.below c.args.label.now ((g.S.System.meaning c.args.system.now).label p))
@@ -12,9 +12,9 @@ loop-p-preserved g c =
     let m = g.S.System.meaning s in
     let f : ℕ → Bool = λ p. g.L.Label.below c.args.label.now (m.label p) in
     let p = c.loop-p.p in
-    elim c.if-is-labelled.branch [
-      | then-is-labelled w ↦ first_in f p c.loop-p.invariant c.is-labelled.ensures w.if-is-labelled.true w.found-is w.insert-found.ensures
-      | else-is-labelled w ↦ first_out f p c.loop-p.invariant c.is-labelled.ensures w.if-is-labelled.false w.found-is
+    elim c.if-is_labelled.branch [
+      | then-is_labelled w ↦ first_in f p c.loop-p.invariant c.is_labelled.ensures w.if-is_labelled.true w.found-is w.insert-found.ensures
+      | else-is_labelled w ↦ first_out f p c.loop-p.invariant c.is_labelled.ensures w.if-is_labelled.false w.found-is
     ]
 
 pub returns : goal.returns

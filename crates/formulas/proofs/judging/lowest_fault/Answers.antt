@@ -9,12 +9,12 @@ loop-i-init g c = refl
 
 pub loop-i-preserved : goal.loop-i-preserved
 loop-i-preserved g c =
-    sym (fault_more c.args.actions c.args.nodes.now c.loop-i.i c.index-nodes-i.result c.loop-i-test.true c.index-nodes-i.is c.if-is-faulty.ensures)
+    sym (fault_more c.args.actions c.args.nodes.now c.loop-i.i c.index-nodes-i.result c.loop-i-test.true c.index-nodes-i.is c.if-is_faulty.ensures)
     ∙ c.loop-i.invariant
 
-pub returns-then-is-faulty : goal.returns-then-is-faulty
-returns-then-is-faulty g c =
-    sym (fault_more c.args.actions c.args.nodes.now c.loop-i.i c.index-nodes-i.result c.loop-i-test.true c.index-nodes-i.is c.if-is-faulty.ensures)
+pub returns-then-is_faulty : goal.returns-then-is_faulty
+returns-then-is_faulty g c =
+    sym (fault_more c.args.actions c.args.nodes.now c.loop-i.i c.index-nodes-i.result c.loop-i-test.true c.index-nodes-i.is c.if-is_faulty.ensures)
     ∙ c.loop-i.invariant
 
 pub returns : goal.returns

@@ -10,7 +10,7 @@ loop-i-init g c =
     let s = c.args.system.now in
     sym (judged_none g.L.Label.below (g.S.System.meaning s) (g.met.S.System.bounded s) c.args.answers.now)
 
-pub write-set-requires : goal.write-set-requires
+pub write-set-requires : goal.write_set-requires
 write-set-requires g c =
     let actions = (g.S.System.meaning c.args.system.now).actions in
     (faultless actions c.args.nodes.now c.requires.0 c.loop-i.i c.index-nodes-i.result c.loop-i-test.true c.index-nodes-i.is, omega arith)
@@ -24,7 +24,7 @@ loop-i-preserved g c =
     let n = c.index-nodes-i.result in
     let h = c.loop-i-test.true in
     let r = c.index-nodes-i.is in
-    judged_more g.L.Label.below m (g.met.S.System.bounded s) ns c.args.answers.now i n h c.requires.1 r (faultless m.actions ns c.requires.0 i n h r) c.loop-i.invariant c.write-set.ensures
+    judged_more g.L.Label.below m (g.met.S.System.bounded s) ns c.args.answers.now i n h c.requires.1 r (faultless m.actions ns c.requires.0 i n h r) c.loop-i.invariant c.write_set.ensures
 
 pub returns : goal.returns
 returns g c =

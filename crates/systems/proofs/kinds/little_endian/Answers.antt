@@ -1,5 +1,5 @@
 use Rattle.std.proofs.Common.{◌≡◌, ℕ, ◌-◌, ◌*◌, ◌^◌, ◌<◌, ◌≤◌, length, get_or, take, drop, sym, ap, ◌∙◌, arith, length-take, get_or-take, pow_pos, pow_mono}
-use lib.Seq.{drop-length}
+use Rattle.std.proofs.Math.Seq.{drop-length}
 use Rattle.systems.specs.Label.{number_of}
 use Rattle.systems.proofs.Bytes.{number_more, bytes_more, bytes_fit}
 use Rattle.systems.proofs.kinds.little_endian.Goals as goal
@@ -10,21 +10,21 @@ loop-i-init c =
     let len : c.min-count.result ≡ length xs = simp length-take (omega arith) in
     (sym (ap number_of (ap (λ (i : ℕ). drop i xs) len ∙ drop-length xs)), pow_pos (8 * (c.min-count.result - c.min-count.result)))
 
-pub overflow-mul-value : goal.overflow-mul-value
-overflow-mul-value c =
+pub overflow_mul-value : goal.overflow_mul-value
+overflow_mul-value c =
     let h = bytes_fit c.loop-i.value 0 c.min-count.result c.loop-i.i (omega arith) (omega arith) (omega arith) (omega arith) c.loop-i.invariant.1 in
     omega arith
 
-pub overflow-add-value : goal.overflow-add-value
-overflow-add-value c =
-    let small = c.type-inv.source (c.loop-i.i - 1) in
+pub overflow_add-value : goal.overflow_add-value
+overflow_add-value c =
+    let small = c.type_inv.source (c.loop-i.i - 1) in
     let h = bytes_fit c.loop-i.value c.from.result c.min-count.result c.loop-i.i (omega arith) (omega arith) (omega arith) (omega arith) c.loop-i.invariant.1 in
     omega arith
 
 pub loop-i-preserved : goal.loop-i-preserved
 loop-i-preserved c =
     let xs = take c.args.width c.args.source.now in
-    let small = c.type-inv.source (c.loop-i.i - 1) in
+    let small = c.type_inv.source (c.loop-i.i - 1) in
     let len : c.loop-i.i ≤ length xs = simp length-take (omega arith) in
     let lt : c.loop-i.i - 1 < c.args.width = omega arith in
     let read : get_or xs (c.loop-i.i - 1) 0 ≡ c.from.result = get_or-take c.args.width c.args.source.now (c.loop-i.i - 1) 0 lt ∙ sym c.from.ensures in

@@ -14,7 +14,7 @@ loop-p-preserved g c =
     let m = g.S.System.meaning c.args.below.now in
     let b = g.met.S.System.bounded c.args.below.now in
     let p = c.loop-p.p in
-    c.with-state-found.ensures
+    c.with_state-found.ensures
     ∙ set_more 64 p _ (diverging m) _ c.loop-p.invariant
     (c.meets.ensures ∙ diverging-found m b _ c.requires p _ (omega arith) c.looping-loops.ensures)
 

@@ -9,7 +9,7 @@ loop-p-init g c = written_none _ _
 
 pub loop-p-preserved : goal.loop-p-preserved
 loop-p-preserved g c =
-    written_more _ _ _ _ _ c.loop-p.invariant (c.with-state.ensures ∙ first-row (g.S.System.meaning c.args.below.now) c.loop-p.p _ c.reach.ensures)
+    written_more _ _ _ _ _ c.loop-p.invariant (c.with_state.ensures ∙ first-row (g.S.System.meaning c.args.below.now) c.loop-p.p _ c.reach.ensures)
 
 pub returns : goal.returns
 unfolding rows_through

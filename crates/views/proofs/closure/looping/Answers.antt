@@ -13,8 +13,8 @@ pub loop-t-preserved : goal.loop-t-preserved
 loop-t-preserved g c =
     let m = g.S.System.meaning c.args.below.now in
     let b = g.met.S.System.bounded c.args.below.now in
-    c.with-state-found.ensures
-    ∙ set_more 64 c.loop-t.t _ (loops m) _ c.loop-t.invariant (c.comes-back.ensures ∙ loops-found m b _ c.requires c.loop-t.t (omega arith))
+    c.with_state-found.ensures
+    ∙ set_more 64 c.loop-t.t _ (loops m) _ c.loop-t.invariant (c.comes_back.ensures ∙ loops-found m b _ c.requires c.loop-t.t (omega arith))
 
 pub returns : goal.returns
 returns g c =

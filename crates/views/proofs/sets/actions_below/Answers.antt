@@ -6,5 +6,5 @@ use Rattle.views.proofs.sets.actions_below.Goals as goal
 pub returns : goal.returns
 returns c = ap (λ x. x - 1) (one_shl c.args.n 64 (omega arith)) ∙ sym (set_of_below 32 c.args.n c.requires)
 
-pub overflow-cast-result-2 : goal.overflow-cast-result-2
-overflow-cast-result-2 c = record { fits = subst (λ x. x < 2 ^ 32) (sym (returns c)) (set_of_lt 32 (λ i. ltb i c.args.n)) }
+pub overflow_cast-result-2 : goal.overflow_cast-result-2
+overflow_cast-result-2 c = record { fits = subst (λ x. x < 2 ^ 32) (sym (returns c)) (set_of_lt 32 (λ i. ltb i c.args.n)) }

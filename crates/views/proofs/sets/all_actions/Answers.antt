@@ -6,7 +6,7 @@ use Rattle.views.proofs.sets.all_actions.Goals as goal
 
 pub returns-then-p-states : goal.returns-then-p-states
 unfolding present
-returns-then-p-states c = c.actions-below.ensures ∙ sym (guarded_true 32 _ _ (lt-ltb c.args.p _ c.if-p-states.true))
+returns-then-p-states c = c.actions_below.ensures ∙ sym (guarded_true 32 _ _ (lt-ltb c.args.p _ c.if-p-states.true))
 
 pub returns-else-p-states : goal.returns-else-p-states
 unfolding present

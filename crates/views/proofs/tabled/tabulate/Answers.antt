@@ -6,8 +6,8 @@ use Rattle.views.proofs.tabled.tabulate.Goals as goal
 pub returns : goal.returns
 returns g c =
     let x = c.args in
-    let fits : room c.states.result c.actions.result (length x.moves.now) (length x.marks.now) (length x.labels.now) ≡ true = sym c.has-room.ensures ∙ c.if-not-has-room.false in
+    let fits : room c.states.result c.actions.result (length x.moves.now) (length x.marks.now) (length x.labels.now) ≡ true = sym c.has_room.ensures ∙ c.if-not-has_room.false in
     let at = λ (n k : ℕ). room n k (length x.moves.now) (length x.marks.now) (length x.labels.now) in
     tabulates (g.S.System.meaning x.system.now) _ _ x.moves.now x.marks.now x.labels.now
     c.states.ensures c.actions.ensures c.start.ensures (sym (ap₂ at c.states.ensures c.actions.ensures) ∙ fits)
-    _ _ _ c.write-moves.ensures c.write-marks.ensures c.write-labels.ensures
+    _ _ _ c.write_moves.ensures c.write_marks.ensures c.write_labels.ensures

@@ -7,7 +7,7 @@ pub loop-p-init : goal.loop-p-init
 loop-p-init g c = written_none _ _
 
 pub loop-p-preserved : goal.loop-p-preserved
-loop-p-preserved g c = written_more _ _ _ _ _ c.loop-p.invariant c.open-on.ensures
+loop-p-preserved g c = written_more _ _ _ _ _ c.loop-p.invariant c.open_on.ensures
 
 pub returns : goal.returns
 unfolding mark_sheet

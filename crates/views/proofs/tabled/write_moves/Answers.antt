@@ -8,8 +8,8 @@ use Rattle.views.proofs.tabled.write_moves.Goals as goal
 pub loop-k-init : goal.loop-k-init
 loop-k-init g c = written_none _ _
 
-pub overflow-cast-k : goal.overflow-cast-k
-overflow-cast-k g c =
+pub overflow_cast-k : goal.overflow_cast-k
+overflow_cast-k g c =
     let b = g.met.S.System.bounded c.args.system.now in
     let row = div_below c.loop-k.k c.actions-actions.result c.states.result (omega (arith, b.some_actions)) c.loop-k-test.true in
     record { fits = omega arith }

@@ -16,9 +16,9 @@ loop-a-init g c = sym (front_none 32 _)
 pub loop-a-preserved : goal.loop-a-preserved
 loop-a-preserved g c =
     let x = c.args in
-    c.with-action-open.ensures
+    c.with_action-open.ensures
     ∙ set_more 32 c.loop-a.a _ _ _ c.loop-a.invariant
-    (c.diverges-by.ensures
+    (c.diverges_by.ensures
     ∙ opens-found (g.S.System.meaning x.below.now) (g.met.S.System.bounded x.below.now) x.rows.now x.diverging x.p c.loop-a.a)
 
 pub returns : goal.returns

@@ -17,6 +17,6 @@ returns-then-p-states g c =
 
 pub returns : goal.returns
 returns g c =
-    ap (bit_and c.reached.result) c.all-below.ensures
+    ap (bit_and c.reached.result) c.all_below.ensures
     ∙ moves_found (g.S.System.meaning c.args.below.now) (g.met.S.System.bounded c.args.below.now) c.args.rows.now _ c.args.p c.args.a _
     c.states-states.ensures (omega arith) (omega arith) c.reached.ensures

@@ -5,8 +5,8 @@ use Rattle.filing.proofs.Asking.{filed, filed-fits, filed_meaning, asks_less, as
 use Rattle.filing.proofs.filed.FiledSystem.label.Goals as goal
 use Rattle.filing.proofs.filed.FiledSystem.label.Goals.{then-p-header, else-p-header}
 
-pub overflow-add-at : goal.overflow-add-at
-overflow-add-at g c = omega (arith, (filed-fits g.L.Label.read c.args.self.now).inside)
+pub overflow_add-at : goal.overflow_add-at
+overflow_add-at g c = omega (arith, (filed-fits g.L.Label.read c.args.self.now).inside)
 
 pub loop-said-smaller : goal.loop-said-smaller
 loop-said-smaller g c = asks_less g.L.Label.read c.args.self.now c.loop-said.at _ c.in-Some.ensures
@@ -14,12 +14,12 @@ loop-said-smaller g c = asks_less g.L.Label.read c.args.self.now c.loop-said.at 
 pub loop-said-preserved : goal.loop-said-preserved
 loop-said-preserved g c =
     asks_on g.L.Label.read c.args.self.now c.loop-said.at _ c.in-Some.ensures _ c.loop-said.label _ c.loop-said.invariant
-    (λ rs e. c.label-by-label.ensures ∙ ap (label_or c.in-Some.said _) e)
+    (λ rs e. c.label_by-label.ensures ∙ ap (label_or c.in-Some.said _) e)
 
 pub returns : goal.returns
 returns g c =
     let state : c.if-p-header.state ≡ cond (ltb c.args.p c.args.self.now.header.states) c.args.p c.args.self.now.header.start =
     elim c.if-p-header.branch [ then-p-header w ↦ grind (arith, nat_tests, w.state-is) | else-p-header w ↦ grind (arith, nat_tests, w.state-is) ] in
-    asks_all g.L.Label.read c.args.self.now _ _ _ c.loop-said.invariant c.in-default.ensures
+    asks_all g.L.Label.read c.args.self.now _ _ _ c.loop-said.invariant c.in_default.ensures
     ∙ ap (label_in g.L.Label.plain (filed g.L.Label.read c.args.self.now).records) state
     ∙ sym (ap (λ m. m.label c.args.p) (filed_meaning g.L.Label.read c.args.self.now g.L.Label.plain))

@@ -9,6 +9,6 @@ returns-then-p-self g c = sym (guarded_false 32 _ _ (le-ltb c.args.p _ (omega ar
 
 pub returns : goal.returns
 returns g c =
-    let met : bit_and c.at.result c.actions-below.result ≡ _ = ap₂ bit_and c.at.ensures c.actions-below.ensures in
-    met ∙ set_of_meet 32 _ _ (subst (λ x. x < 2 ^ 32) c.at.ensures c.at.type-inv)
+    let met : bit_and c.at.result c.actions_below.result ≡ _ = ap₂ bit_and c.at.ensures c.actions_below.ensures in
+    met ∙ set_of_meet 32 _ _ (subst (λ x. x < 2 ^ 32) c.at.ensures c.at.type_inv)
     ∙ sym (guarded_true 32 _ _ (lt-ltb c.args.p _ (omega arith)))

@@ -17,6 +17,6 @@ returns-then-p-self g c = sym (guarded_false 64 _ _ absent)
 
 pub returns : goal.returns
 returns g c =
-    let met : bit_and c.at.result c.all-below.result ≡ _ = ap₂ bit_and c.at.ensures c.all-below.ensures in
-    met ∙ set_of_meet 64 _ _ (subst (λ x. x < 2 ^ 64) c.at.ensures c.at.type-inv)
+    let met : bit_and c.at.result c.all_below.result ≡ _ = ap₂ bit_and c.at.ensures c.all_below.ensures in
+    met ∙ set_of_meet 64 _ _ (subst (λ x. x < 2 ^ 64) c.at.ensures c.at.type_inv)
     ∙ sym (guarded_true 64 _ _ (and_from _ _ (lt-ltb c.args.p _ (omega arith)) (lt-ltb c.args.a _ (omega arith))))
