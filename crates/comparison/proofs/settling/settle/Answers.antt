@@ -15,8 +15,8 @@ unreachable-requires g c =
     run_not_refused _ _ _ g.met.L.Label.order (g.met.A.System.bounded c.args.first.now) (g.met.B.System.bounded c.args.second.now) _
     _ _ _ _ _ c.in_ok-opened.ensures.step c.in_default.ensures
 
-pub unreachable-requires-in-default-close : goal.unreachable-requires-in_default-close
-unreachable-requires-in-default-close g c =
+pub unreachable-requires-in_default-close : goal.unreachable-requires-in_default-close
+unreachable-requires-in_default-close g c =
     close_not_refused _ _ _ g.met.L.Label.order (g.met.A.System.bounded c.args.first.now) (g.met.B.System.bounded c.args.second.now) _
     _ _ _ _ _ _ c.from.ensures c.in_ok-opened.ensures.step c.in-Ok.ensures c.in_default-close.ensures
 

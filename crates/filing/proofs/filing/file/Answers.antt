@@ -36,8 +36,8 @@ overflow_add-begin g c =
           (header_read g (goal.at.overflow_add-begin g c).In-ok-header)).inside,
     )
 
-pub records-end-requires : goal.records_end-requires
-records-end-requires g c =
+pub records_end-requires : goal.records_end-requires
+records_end-requires g c =
     (header_ok g.L.Label.plain g.L.Label.kind g.L.Label.bytes g.L.Label.read c.args.bytes.now c.args.begin _
     (header_read g (goal.at.records_end-requires g c).In-ok-header)).few_states
 

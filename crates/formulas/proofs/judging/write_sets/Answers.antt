@@ -10,8 +10,8 @@ loop-i-init g c =
     let s = c.args.system.now in
     sym (judged_none g.L.Label.below (g.S.System.meaning s) (g.met.S.System.bounded s) c.args.answers.now)
 
-pub write-set-requires : goal.write_set-requires
-write-set-requires g c =
+pub write_set-requires : goal.write_set-requires
+write_set-requires g c =
     let actions = (g.S.System.meaning c.args.system.now).actions in
     (faultless actions c.args.nodes.now c.requires.0 c.loop-i.i c.index-nodes-i.result c.loop-i-test.true c.index-nodes-i.is, omega arith)
 
