@@ -1,26 +1,26 @@
 -- A filed system: what it means, and going through its records to gather what a question asks for.
-use Rattle.std.proofs.Common.{◌≡◌, ℕ, ◌+◌, ◌-◌, ◌<◌, List, ◌∷◌, length, get_or, Some, None, Ok, Err, sym, ap, ◌∙◌, subst, arith}
+use Rattle.std.proofs.Common.{◌≡◌, ℕ, ◌+◌, ◌-◌, ◌<◌, List, ◌∷◌, length, get_or, Some, None, Ok, Err, sym, ap, arith}
+use Rattle.systems.specs.declared.label.Label.{Ghosts}
 use Rattle.systems.specs.Meaning.{Bounded}
 use Rattle.filing.specs.declared.filed.Filed.{Filed}
 use Rattle.filing.specs.declared.record.Record.{Record}
-use Rattle.filing.specs.Accepted.{meaning_in, meaning_at, record_in}
+use Rattle.filing.specs.Accepted.{meaning_at, record_in}
 use Rattle.filing.specs.Contents.{Contents, meaning_of}
 use Rattle.filing.specs.Format.{Entry, entry_at}
-use Rattle.filing.proofs.Shape.{header_blank}
-use Rattle.filing.proofs.Standing.{HeaderFits, header_fits, Stands, stands, standing, contents_stand, standing_bounded}
+use Rattle.filing.specs.Standing.{HeaderFits, header_fits, Stands, standing, accepted_stands, accepted_meaning, accepted_bounded}
 use Rattle.filing.proofs.Walk.{Underway, entry_within, walk_goes_on, walk_allows, walk_gathers}
 
 read_entry : {L : Type 0} (x : Entry L) (e : Record L × ℕ) → Some e ≡ record_in x → x ≡ Ok (Some e)
 read_entry (Ok o) e is = ap Ok (sym is)
 read_entry (Err c) e is = let z : ◌≡◌ {A = ℕ} 0 1 = cc in absurd (omega arith)
 
-module _ {L : Type 0} (read : List ℕ → L) (s : Filed L) where
+module _ {L : Type 0} {g : Ghosts L} (read : List ℕ → L) (s : Filed L g) where
   -- the kind that the bytes name
   abbrev pub kind : ℕ
   kind = get_or s.bytes.now (s.begin + 5) 0
 
-  pub filed_stands : Stands kind s.width read s.bytes.now s.begin s.header
-  filed_stands = stands kind s.width read s.bytes.now s.begin s.header (sym (header_blank s.width read s.bytes.now kind s.begin s.header) ∙ s.accepted)
+  abbrev pub filed_stands : Stands kind s.width read s.bytes.now s.begin s.header
+  filed_stands = accepted_stands read s.header s.width s.bytes.now s.begin s.accepted
 
   abbrev pub filed : Contents L
   filed = standing kind s.width read s.bytes.now s.begin s.header filed_stands
@@ -29,10 +29,10 @@ module _ {L : Type 0} (read : List ℕ → L) (s : Filed L) where
   filed-fits = header_fits kind s.bytes.now s.begin s.header filed_stands.header_is
 
   pub filed_meaning : (plain : L) → meaning_at plain read s.width s.bytes.now s.begin ≡ meaning_of plain filed
-  filed_meaning plain = ap (meaning_in plain) (contents_stand kind s.width read s.bytes.now s.begin s.header filed_stands)
+  filed_meaning = accepted_meaning read s.header s.width s.bytes.now s.begin s.accepted
 
   pub filed_bounded : (plain : L) → Bounded (meaning_at plain read s.width s.bytes.now s.begin)
-  filed_bounded plain = subst Bounded (sym (filed_meaning plain)) (standing_bounded kind s.width read s.bytes.now s.begin s.header filed_stands plain)
+  filed_bounded = accepted_bounded read s.header s.width s.bytes.now s.begin s.accepted
 
   -- a walk through all the records
   abbrev pub Asks : {A : Type 0} → (List (Record L) → A) → ℕ → A → Type 0

@@ -2,7 +2,8 @@
 use Rattle.std.proofs.Common.{◌≡◌, ℕ, ◌^◌, ◌<◌, ◌≤◌, Bool, true, false, ◌||◌, ◌⊎◌, sym, refl, ap, ◌∙◌, inl, inr, arith}
 use Rattle.std.proofs.lemmas.Bool.{cases_lt, cases_Bool}
 use Rattle.systems.specs.Sets.{has, set_of}
-use Rattle.systems.proofs.Sets.{or-false, has_ext, has_beyond, has-set_of, set_of_lt, set_of-has, set_of_cong}
+use Rattle.std.proofs.Math.Bool.{or-false}
+use Rattle.systems.proofs.Sets.{has_ext, has_beyond, has-set_of, set_of_lt, set_of-has, set_of_cong}
 use Rattle.filing.specs.declared.record.Record.{Record}
 use Rattle.filing.specs.Contents.{says_move, says_mark, says_label}
 

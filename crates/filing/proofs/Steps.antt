@@ -6,6 +6,7 @@ use Rattle.systems.specs.Sets.{has, set_of}
 use Rattle.systems.proofs.Sets.{has-set_of}
 use Rattle.filing.specs.declared.fault.Cause.{Cause}
 use Rattle.filing.specs.declared.fault.Fault.{Fault}
+use Rattle.systems.specs.declared.label.Label.{Ghosts}
 use Rattle.filing.specs.declared.filed.Filed.{Filed}
 use Rattle.filing.specs.declared.header.Header.{Header}
 use Rattle.filing.specs.declared.record.Record.{Record}
@@ -15,8 +16,8 @@ use Rattle.filing.specs.Format.{entry_at}
 use Rattle.filing.specs.Place.{end_of, Leaves}
 use Rattle.filing.specs.Steps.{fault_at, unless}
 use Rattle.filing.proofs.Says.{set_more}
-use Rattle.filing.proofs.Shape.{header_blank}
-use Rattle.filing.proofs.Standing.{HeaderFits, header_fits}
+use Rattle.filing.specs.Shape.{header_blank}
+use Rattle.filing.specs.Standing.{HeaderFits, header_fits}
 use Rattle.filing.proofs.Walk.{Underway, entry_within, walk_ends, walk_fails, walk_objects, walk_goes_on}
 
 -- ---- the steps' answers, read back
@@ -95,7 +96,7 @@ module _ {L : Type 0} (plain : L) (kind width : ℕ) (read : List ℕ → L) (by
   all = contents kind width read bytes begin
 
   -- refused bytes leave the place as it was
-  pub refuses : (f : Fault) → all ≡ Err f → (place : Filed L) → (Err f ≡ end_of all) × Leaves plain read bytes begin all place place
+  pub refuses : (f : Fault) → all ≡ Err f → {ghosts : Ghosts L} (place : Filed L ghosts) → (Err f ≡ end_of all) × Leaves plain read bytes begin all place place
   refuses f is place = let P : Result (Contents L) Fault → Type 0 = λ x. (Err f ≡ end_of x) × Leaves plain read bytes begin x place place in subst P (sym is) (refl, refl)
 
   pub no_header : (f : Fault) → fault_at begin (header_at kind bytes begin) ≡ Err f → all ≡ Err f
@@ -138,7 +139,7 @@ module _ {L : Type 0} (plain : L) (kind width : ℕ) (read : List ℕ → L) (by
       has-shape =
           header_blank width read bytes (get_or bytes (begin + 5) 0) begin h ∙ ap (has_header h) (of_kind ∙ accepts.1) ∙ grind (arith, nat_tests)
 
-      pub files : (before after : Filed L) → after.bytes.now ≡ bytes → after.begin ≡ begin → after.width ≡ width →
+      pub files : {ghosts : Ghosts L} (before after : Filed L ghosts) → after.bytes.now ≡ bytes → after.begin ≡ begin → after.width ≡ width →
           (Ok end ≡ end_of all) × Leaves plain read bytes begin all before after
       files before after bytes_are begin_is width_is =
           let P : Result (Contents L) Fault → Type 0 = λ x. (Ok end ≡ end_of x) × Leaves plain read bytes begin x before after in

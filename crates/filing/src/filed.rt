@@ -2,10 +2,12 @@
 ghost use Rattle.std.specs.Prelude.{◌≡◌, true};
 ghost use Rattle.filing.specs.Accepted.{has_header, shape, lone, meaning_at, record_in};
 ghost use Rattle.filing.specs.Format.{entry_at};
+ghost use Rattle.filing.specs.Standing.{accepted_bounded};
 
 use crate::header::Header;
 use crate::reading::{add_mark, add_target, label_by};
 use crate::record::{Record, entry_at};
+use std::alloc::AllocError;
 use std::marker::PhantomData;
 use systems::label::Label;
 use systems::system::System;
@@ -21,6 +23,16 @@ pub struct Filed<'a, L: Label> {
 }
 
 impl<'a, L: Label> Copy for Filed<'a, L> {}
+
+impl<'a, L: Label> Clone for Filed<'a, L> {
+    ghost is_clone = { λ s copy. copy ≡ s };
+
+    ghost is_infallible = { λ _. Unit {0} };
+
+    fn clone(&self) -> Result<Self, AllocError> {
+        Ok(*self)
+    }
+}
 
 impl<'a, L: Label> Filed<'a, L> {
     // a system to begin with, before any file is filed
@@ -61,6 +73,8 @@ impl<'a, L: Label> Filed<'a, L> {
 
 impl<'a, L: Label> System<L> for Filed<'a, L> {
     ghost meaning = { λ s. meaning_at L.Label.plain L.Label.read s.width s.bytes.now s.begin };
+
+    ghost bounded = { λ s. accepted_bounded L.Label.read s.header s.width s.bytes.now s.begin s.accepted L.Label.plain };
 
     fn states(&self) -> u8 {
         self.header.states

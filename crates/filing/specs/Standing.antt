@@ -1,4 +1,5 @@
--- What is known of accepted bytes: their header fits, their records name present states and actions only.
+-- What is known of accepted bytes: their header fits, their records name present states and actions only. These are lemmas for the law of
+-- the filed system, that it is within bounds; a law may cite nothing but what stands here.
 use Rattle.std.proofs.Common.{◌≡◌, ℕ, zero, suc, ◌+◌, ◌<◌, ◌≤◌, Bool, true, false, cond, not, ltb, List, [], ◌∷◌, length, get_or, Some, None, Ok, Err, Option, Result, sym, refl, ap, ◌∙◌, subst, ⊎_elim, arith}
 use Rattle.std.proofs.lemmas.Bool.{true≢false, or_cases, ltb-false}
 use Rattle.std.proofs.lemmas.Bool.Decides.{nat_tests}
@@ -6,9 +7,10 @@ use Rattle.systems.specs.Meaning.{Bounded}
 use Rattle.filing.specs.declared.fault.Cause.{Cause}
 use Rattle.filing.specs.declared.header.Header.{Header}
 use Rattle.filing.specs.declared.record.Record.{Record}
-use Rattle.filing.specs.Accepted.{has_header}
+use Rattle.filing.specs.Accepted.{has_header, meaning_in, meaning_at, shape}
 use Rattle.filing.specs.Contents.{Contents, Outcome, accept, proceed, records_from, move_in, mark_in, label_in, says_move, says_mark, labelled_in, objection, with_header, in_bounds, is_system, header_at, contents, contents_after, meaning_of}
 use Rattle.filing.specs.Format.{Entry, mark, entry_at}
+use Rattle.filing.specs.Shape.{header_blank}
 
 -- ---- the header
 
@@ -157,3 +159,19 @@ module _ {L : Type 0} (kind width : ℕ) (read : List ℕ → L) (bytes : List �
               let same : cond (ltb p h.states) p h.start ≡ cond (ltb h.start h.states) h.start h.start = grind (arith, nat_tests) in
               ap (label_in plain s.records) same;
         }
+
+-- ---- bytes of the kind that they name themselves
+
+module _ {L : Type 0} (read : List ℕ → L) (h : Header) (width : ℕ) (bytes : List ℕ) (begin : ℕ) (accepted : has_header h (shape width bytes begin) ≡ true) where
+  -- the kind that the bytes name
+  abbrev pub kind : ℕ
+  kind = get_or bytes (begin + 5) 0
+
+  pub accepted_stands : Stands kind width read bytes begin h
+  accepted_stands = stands kind width read bytes begin h (sym (header_blank width read bytes kind begin h) ∙ accepted)
+
+  pub accepted_meaning : (plain : L) → meaning_at plain read width bytes begin ≡ meaning_of plain (standing kind width read bytes begin h accepted_stands)
+  accepted_meaning plain = ap (meaning_in plain) (contents_stand kind width read bytes begin h accepted_stands)
+
+  pub accepted_bounded : (plain : L) → Bounded (meaning_at plain read width bytes begin)
+  accepted_bounded plain = subst Bounded (sym (accepted_meaning plain)) (standing_bounded kind width read bytes begin h accepted_stands plain)

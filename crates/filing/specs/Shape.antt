@@ -1,4 +1,4 @@
--- Whether bytes are accepted does not depend on what their labels stand for.
+-- Whether bytes are accepted does not depend on what their labels stand for: lemmas below Standing.
 use Rattle.std.proofs.Common.{◌≡◌, ℕ, zero, suc, ◌+◌, Bool, true, false, cond, ◌||◌, ltb, leb, List, [], ◌∷◌, map, length, Some, None, Ok, Err, Option, Result, refl, ap, ◌∙◌, ap₂}
 use Rattle.filing.specs.declared.fault.Cause.{Cause}
 use Rattle.filing.specs.declared.header.Header.{Header}
