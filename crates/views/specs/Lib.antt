@@ -1,10 +1,6 @@
+pub mod Bounds
 pub mod Layers
 pub mod Refusal
 pub mod Simulation
 pub mod Tabled
 pub mod Weak
-pub mod Viewing
-pub mod Rows
-pub mod Tables
-pub mod Masks
-pub mod Silence

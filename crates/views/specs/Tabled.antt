@@ -1,5 +1,5 @@
 -- Systems held as sheets: what is written, what the sheets then hold, and what sheets of any content mean.
-use Rattle.std.specs.Prelude.{◌≡◌, ℕ, zero, suc, ◌+◌, ◌*◌, ◌/◌, ◌%◌, ◌<◌, Bool, true, false, cond, ◌&&◌, List, length, set, Result, MatchResult, nat_le, nat_lt, slice_index, slice_index_or, slice_set}
+use Rattle.std.specs.Prelude.{◌≡◌, ℕ, zero, suc, ◌+◌, ◌*◌, ◌/◌, ◌%◌, ◌<◌, Bool, true, false, cond, ◌&&◌, List, length, Result, MatchResult, nat_le, nat_lt, slice_index, slice_index_or, slice_set}
 use Rattle.systems.specs.Meaning.{Meaning, Bounded}
 use Rattle.systems.specs.Sets.{has, set_of}
 use Rattle.views.specs.declared.refusal.Refusal.{Refusal}

@@ -2,7 +2,7 @@
 ghost use Rattle.std.specs.Prelude.{◌≡◌, ◌<◌, ◌||◌, slice_index};
 ghost use Rattle.systems.specs.Sets.{has, set_of};
 ghost use Rattle.views.specs.Weak.{overlap, comes, view_moves, view_marks, view_over, silent_rows, diverging, WeakView};
-ghost use Rattle.views.specs.Viewing.{view_bounded};
+ghost use Rattle.views.specs.Bounds.{view_bounded};
 
 use crate::{closure, sets};
 use systems::label::Label;

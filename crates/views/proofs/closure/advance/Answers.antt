@@ -1,5 +1,5 @@
 use Rattle.std.proofs.Common.{refl, ◌∙◌}
-use Rattle.views.specs.Rows.{leads_none, leads_more}
+use Rattle.views.proofs.Rows.{leads_none, leads_more}
 use Rattle.views.proofs.closure.advance.Goals as goal
 
 pub loop-q-init : goal.loop-q-init

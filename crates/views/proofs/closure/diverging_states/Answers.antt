@@ -2,8 +2,8 @@ use Rattle.std.proofs.Common.{◌&&◌, ltb, sym, ap, ◌∙◌, arith}
 use Rattle.systems.specs.Sets.{set_of}
 use Rattle.systems.proofs.Sets.{front_none}
 use Rattle.views.specs.Weak.{diverging}
-use Rattle.views.specs.Masks.{set_more}
-use Rattle.views.specs.Rows.{diverging-found, diverging-all}
+use Rattle.views.proofs.Masks.{set_more}
+use Rattle.views.proofs.Rows.{diverging-found, diverging-all}
 use Rattle.views.proofs.closure.diverging_states.Goals as goal
 
 pub loop-p-init : goal.loop-p-init

@@ -1,7 +1,7 @@
 use Rattle.std.proofs.Common.{◌∙◌, arith}
 use Rattle.views.specs.Weak.{rows_through}
-use Rattle.views.specs.Rows.{first-row}
-use Rattle.views.specs.Tables.{written_none, written_more, written_all}
+use Rattle.views.proofs.Rows.{first-row}
+use Rattle.views.proofs.Tables.{written_none, written_more, written_all}
 use Rattle.views.proofs.closure.first_rows.Goals as goal
 
 pub loop-p-init : goal.loop-p-init

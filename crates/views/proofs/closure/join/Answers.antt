@@ -1,6 +1,6 @@
 use Rattle.std.proofs.Common.{sym, ◌∙◌}
 use Rattle.systems.proofs.Sets.{set_of-has}
-use Rattle.views.specs.Rows.{leads_none, leads_more}
+use Rattle.views.proofs.Rows.{leads_none, leads_more}
 use Rattle.views.proofs.closure.join.Goals as goal
 
 pub loop-q-init : goal.loop-q-init

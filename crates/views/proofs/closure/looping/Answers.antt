@@ -2,8 +2,8 @@ use Rattle.std.proofs.Common.{◌&&◌, ltb, sym, ap, ◌∙◌, arith}
 use Rattle.systems.specs.Sets.{set_of}
 use Rattle.systems.proofs.Sets.{front_none}
 use Rattle.views.specs.Weak.{loops}
-use Rattle.views.specs.Masks.{set_more}
-use Rattle.views.specs.Rows.{loops-found, loops-all}
+use Rattle.views.proofs.Masks.{set_more}
+use Rattle.views.proofs.Rows.{loops-found, loops-all}
 use Rattle.views.proofs.closure.looping.Goals as goal
 
 pub loop-t-init : goal.loop-t-init

@@ -1,5 +1,5 @@
 use Rattle.std.proofs.Common.{arith}
-use Rattle.views.specs.Masks.{set_with}
+use Rattle.views.proofs.Masks.{set_with}
 use Rattle.views.proofs.sets.with_action.Goals as goal
 
 pub returns : goal.returns

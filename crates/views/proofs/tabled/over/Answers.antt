@@ -1,5 +1,5 @@
 use Rattle.std.proofs.Common.{refl}
-use Rattle.views.specs.Tables.{tables_faithful}
+use Rattle.views.proofs.Tables.{tables_faithful}
 use Rattle.views.proofs.tabled.over.Goals as goal
 
 pub returns : goal.returns

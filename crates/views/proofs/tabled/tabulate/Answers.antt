@@ -1,6 +1,6 @@
 use Rattle.std.proofs.Common.{◌≡◌, ℕ, true, length, sym, ◌∙◌, ap₂}
 use Rattle.views.specs.Tabled.{room}
-use Rattle.views.specs.Tables.{tabulates}
+use Rattle.views.proofs.Tables.{tabulates}
 use Rattle.views.proofs.tabled.tabulate.Goals as goal
 
 pub returns : goal.returns

@@ -1,5 +1,5 @@
 use Rattle.std.proofs.Common.{◌∙◌}
-use Rattle.views.specs.Viewing.{comes-silent, comes_onward}
+use Rattle.views.proofs.Viewing.{comes-silent, comes_onward}
 use Rattle.views.proofs.weak.reached.Goals as goal
 
 pub returns-then-a-eq0 : goal.returns-then-a-eq0

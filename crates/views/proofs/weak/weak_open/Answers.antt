@@ -1,8 +1,8 @@
 use Rattle.std.proofs.Common.{sym, ◌∙◌, arith}
 use Rattle.std.proofs.lemmas.Bool.{le-ltb}
 use Rattle.systems.proofs.Sets.{front_none}
-use Rattle.views.specs.Masks.{set_more}
-use Rattle.views.specs.Viewing.{opens-found, marks_found, marks_absent}
+use Rattle.views.proofs.Masks.{set_more}
+use Rattle.views.proofs.Viewing.{opens-found, marks_found, marks_absent}
 use Rattle.views.proofs.weak.weak_open.Goals as goal
 
 pub returns-then-p-states : goal.returns-then-p-states

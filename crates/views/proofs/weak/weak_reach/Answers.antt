@@ -1,7 +1,7 @@
 use Rattle.std.proofs.Common.{◌≡◌, false, ◌&&◌, ltb, ap, ◌∙◌, arith}
 use lib.Bits.{bit_and}
 use Rattle.std.proofs.lemmas.Bool.{le-ltb, and_left, and_right}
-use Rattle.views.specs.Viewing.{moves_found, moves_absent}
+use Rattle.views.proofs.Viewing.{moves_found, moves_absent}
 use Rattle.views.proofs.weak.weak_reach.Goals as goal
 use Rattle.views.proofs.weak.weak_reach.Goals.{then-p-states-via-then-p-states, then-p-states-via-else-p-states+then-a-actions}
 

@@ -1,5 +1,5 @@
 use Rattle.std.proofs.Common.{refl}
-use Rattle.views.specs.Viewing.{view_is_weak}
+use Rattle.views.proofs.Viewing.{view_is_weak}
 use Rattle.views.proofs.weak.weak_view.Goals as goal
 
 pub returns : goal.returns

@@ -8,7 +8,7 @@ use Rattle.std.proofs.lemmas.Bool.Decides.{Decides-at}
 use Rattle.systems.specs.Meaning.{Meaning, Bounded}
 use Rattle.systems.specs.Sets.{some_of, count}
 use Rattle.systems.proofs.Sets.{some_decides}
-use Rattle.views.specs.Masks.{count_le, count_less}
+use Rattle.views.proofs.Masks.{count_le, count_less}
 use Rattle.views.specs.Weak.{Silently, stay, step, Diverges, Weakly, leads, through, silent, loops, diverging, comes, view_moves, opens, view_marks, view_by, WeakView}
 
 -- ---- silent moves

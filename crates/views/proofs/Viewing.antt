@@ -1,41 +1,18 @@
 -- The weak view, as the code answers for it.
-use Rattle.std.specs.Prelude.{◌≡◌, ℕ, ◌^◌, ◌<◌, Bool, true, false, cond, ◌&&◌, ◌||◌, ltb, List, ◌≢◌, bit_and, nat_lt, slice_index}
+use Rattle.std.specs.Prelude.{◌≡◌, ℕ, ◌^◌, ◌<◌, Bool, false, cond, ◌&&◌, ◌||◌, ltb, List, ◌≢◌, bit_and, nat_lt, slice_index}
 use Rattle.std.proofs.Math.Path.{sym, ap, ap₂}
 use Rattle.std.proofs.Common.{subst, ◌∙◌, arith}
-use Rattle.std.proofs.lemmas.Bool.{lt-ltb, ltb-true, eq-eqb, ne_eqb, and_parts, and_from}
+use Rattle.std.proofs.lemmas.Bool.{lt-ltb, eq-eqb, ne_eqb, and_parts, and_from}
 use Rattle.std.proofs.lemmas.Bool.Decides.{Decides-at}
 use Rattle.systems.specs.Meaning.{Meaning, Bounded}
 use Rattle.systems.specs.Sets.{has, set_of}
 use Rattle.systems.proofs.Sets.{has-set_of, set_of_cong, set_of-has, set_of_lt, set_of_meet, guarded_true, guarded_false, some_cong, some_within}
-use Rattle.views.specs.Weak.{overlap, leads, silent_rows, diverging, comes, view_moves, opens, view_marks, view_by, view_over, WeakView}
-use Rattle.views.specs.Rows.{row-silent}
-use Rattle.views.specs.Silence.{silent_decides, diverging_decides, view_correct}
+use Rattle.views.specs.Weak.{overlap, leads, silent_rows, diverging, comes, view_moves, opens, view_marks, view_over, WeakView}
+use Rattle.views.specs.Bounds.{moves_within}
+use Rattle.views.proofs.Rows.{row-silent}
+use Rattle.views.proofs.Silence.{silent_decides, diverging_decides, view_correct}
 
 module _ {L : Type 0} (m : Meaning L) (bounded : Bounded m) where
-  moves_within : (c : ℕ → ℕ → Bool) (p a t : ℕ) → view_moves m c p a t ≡ true → (p < m.states) × (a < m.actions) × (t < m.states)
-  unfolding view_moves
-  moves_within c p a t e =
-      let (x, y) = and_parts _ _ e in
-      let (p<, a<) = and_parts (nat_lt p m.states) _ x in
-      let (t<, h) = and_parts (nat_lt t m.states) _ y in
-      (ltb-true p m.states p<, ltb-true a m.actions a<, ltb-true t m.states t<)
-
-  pub view_bounded : (c : ℕ → ℕ → Bool) (d : ℕ → Bool) → Bounded (view_by m c d)
-  unfolding view_marks
-  view_bounded c d = record {
-    some_states = bounded.some_states;
-    few_states = bounded.few_states;
-    some_actions = bounded.some_actions;
-    few_actions = bounded.few_actions;
-    start_present = bounded.start_present;
-    moves_present = moves_within c;
-    marks_present = λ p a e.
-        let (p<, x) = and_parts (nat_lt p m.states) _ e in
-        let (a<, y) = and_parts (nat_lt a m.actions) _ x in
-        (ltb-true p m.states p<, ltb-true a m.actions a<);
-    absent_label = bounded.absent_label;
-  }
-
   module _ (rows : List ℕ) where
     abbrev row : ℕ → ℕ → Bool
     row q = has (slice_index rows q)
@@ -72,7 +49,7 @@ module _ {L : Type 0} (m : Meaning L) (bounded : Bounded m) where
     opens-found set p a =
         ap (λ b. has set p || b)
         (some_cong 64 _ (λ t. view_moves m row p a t && has set t) (λ t l. ap (λ b. b && has set t) (has-set_of 64 (view_moves m row p a) t l))
-        ∙ some_within m.states 64 _ bounded.few_states (λ t k. (moves_within row p a t (and_parts _ _ k).0).2))
+        ∙ some_within m.states 64 _ bounded.few_states (λ t k. (moves_within m bounded row p a t (and_parts _ _ k).0).2))
 
     pub marks_found : (set p n : ℕ) → n ≡ m.actions → p < m.states
         → set_of 32 (λ a. nat_lt a n && opens m row (has set) p a) ≡ set_of 32 (view_marks m row (has set) p)

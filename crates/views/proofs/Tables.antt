@@ -10,7 +10,7 @@ use Rattle.std.proofs.lemmas.Bool.{cases_eq, cases_lt, lt-ltb, le-ltb, ltb-true,
 use Rattle.systems.specs.Meaning.{Meaning, Bounded}
 use Rattle.systems.specs.Sets.{has, set_of}
 use Rattle.systems.proofs.Sets.{has-set_of}
-use Rattle.views.specs.Masks.{same_tests}
+use Rattle.views.proofs.Masks.{same_tests}
 use Rattle.views.specs.declared.sheets.Shape.{Shape}
 use Rattle.views.specs.Tabled.{written, room, Tables, Tabulates, move_sheet, mark_sheet, label_sheet, by_sheets}
 

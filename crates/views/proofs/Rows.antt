@@ -10,7 +10,7 @@ use Rattle.systems.specs.Sets.{has, set_of, some_of}
 use Rattle.systems.proofs.Sets.{has-set_of, set_of_cong, set_of_none, set_of_or, some_cong, some_within}
 use Rattle.views.specs.Tabled.{written}
 use Rattle.views.specs.Weak.{overlap, leads, through, silent, rows_through, silent_rows, loops, diverging}
-use Rattle.views.specs.Tables.{get_or-written, get_or-written_past}
+use Rattle.views.proofs.Tables.{get_or-written, get_or-written_past}
 
 -- ---- joining rows
 
