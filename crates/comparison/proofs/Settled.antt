@@ -4,7 +4,6 @@ use Rattle.std.proofs.lemmas.Nat.{mul-le}
 use Rattle.std.proofs.lemmas.Bool.{leb-true, or_cases, both_ways}
 use Rattle.systems.specs.Label.{Preorder}
 use Rattle.systems.specs.Meaning.{Meaning, Bounded}
-use Rattle.preorder.specs.Strikes.{opened}
 use Rattle.comparison.specs.declared.refusal.Refusal.{Refusal}
 use Rattle.comparison.specs.declared.refusal.Refusal.TheVariants.{Undecided}
 use Rattle.comparison.specs.declared.refusal.Refused.{Refused}

@@ -36,8 +36,8 @@ returns-then-cells-pairs g c = when_short _ _ _ (sym c.same_systems.ensures ∙ 
 pub returns-then-comparison : goal.returns-then-comparison
 returns-then-comparison g c = when_still _ _ _ (sym c.same_systems.ensures ∙ c.if-not-same_systems.false) (omega arith) c.if-comparison.true
 
-pub returns-then-comparison-ge-MOST-ROUNDS : goal.returns-then-comparison-ge-MOST-ROUNDS
-returns-then-comparison-ge-MOST-ROUNDS g c =
+pub returns-then-comparison-ge-MOST_ROUNDS : goal.returns-then-comparison-ge-MOST_ROUNDS
+returns-then-comparison-ge-MOST_ROUNDS g c =
     when_spent _ _ _ (sym c.same_systems.ensures ∙ c.if-not-same_systems.false) (omega arith) c.if-comparison.false (omega arith)
 
 pub returns : goal.returns

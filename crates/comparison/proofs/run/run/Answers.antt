@@ -25,8 +25,8 @@ loop-done-preserved g c =
     running_more _ _ _ (g.met.A.System.bounded _) (g.met.B.System.bounded _) c.args.allowance _ _ c.loop-done.invariant _ _ _
     (omega arith) (not-true _ c.if-not-stage.true) (omega arith) c.advance-more.ensures.stage c.advance-more.ensures.struck c.advance-more.ensures.cells
 
-pub returns-else-stage-lt-MOST-ROUNDS : goal.returns-else-stage-lt-MOST-ROUNDS
-returns-else-stage-lt-MOST-ROUNDS g c =
+pub returns-else-stage-lt-MOST_ROUNDS : goal.returns-else-stage-lt-MOST_ROUNDS
+returns-else-stage-lt-MOST_ROUNDS g c =
     run_answers _ _ _ (g.met.A.System.bounded _) (g.met.B.System.bounded _) _ _ _ _ (sym c.round_refusal.ensures ∙ c.in_default.is) c.loop-done.invariant
     (inr (or_right c.loop-done.stage.still _ (le-leb 4097 _ (omega arith))))
 

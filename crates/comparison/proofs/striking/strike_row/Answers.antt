@@ -6,7 +6,7 @@ use Rattle.preorder.specs.Reason.{Reason as Why}
 use Rattle.comparison.specs.declared.strike.Strike.{Strike}
 use Rattle.comparison.specs.Grid.{place}
 use Rattle.comparison.specs.Search.{row_filled, strike_for, strike_over, strikes_over, struck_over}
-use Rattle.comparison.specs.Sheet.{blank_strike, cells_of, strike_of}
+use Rattle.comparison.specs.Sheet.{blank_strike, cells_of}
 use Rattle.comparison.proofs.Counts.{count_more, count_same, count_few}
 use Rattle.comparison.proofs.Rows.{row_filled_none, row_filled_more, row_filled_kept}
 use Rattle.comparison.proofs.striking.strike_row.Goals as goal
