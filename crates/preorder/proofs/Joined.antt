@@ -2,8 +2,8 @@
 use Rattle.std.proofs.Common.{◌≡◌, ℕ, zero, suc, ◌<◌, ◌≤◌, max, Bool, true, false, cond, ◌⊎◌, List, [], ◌∷◌, ◌++◌, map, sym, refl, ap, ◌∙◌, subst, inl, inr, ⊎_elim, arith}
 use mathlib.Core.List.Memᴰ
 use mathlib.Core.List.{Memᴰ}
-use Rattle.std.specs.List.{AllByRecursion as All}
-use Rattle.std.proofs.ByRecursion.{All-append, All-map, All-weaker}
+use Rattle.std.specs.List.{All}
+use Rattle.std.proofs.lemmas.List.Elements.{All-nil, All-cons, All-head, All-tail, All-append, All-map, All-weaker}
 use Rattle.std.proofs.lemmas.Bool.{false≢true, cases_lt}
 use Rattle.formulas.specs.Formula.{Formula, depth}
 use Rattle.preorder.specs.Unfolding.{members, joined, joined_to}
@@ -12,12 +12,12 @@ use Rattle.preorder.specs.Unfolding.{members, joined, joined_to}
 
 pub members_pass : (w : ℕ) (f : ℕ → Bool) → All (λ u. f u ≡ true) (members w f)
 unfolding members
-members_pass zero f = tt
-members_pass (suc w) f = All-append _ (members w f) _ (members_pass w f) (last (f w) refl)
+members_pass zero f = All-nil (λ u. f u ≡ true)
+members_pass (suc w) f = All-append (λ u. f u ≡ true) (members w f) _ (members_pass w f) (last (f w) refl)
   where
     last : (b : Bool) → f w ≡ b → All (λ u. f u ≡ true) (cond b (w ∷ []) [])
-    last true e = (e, tt)
-    last false e = tt
+    last true e = All-cons (λ u. f u ≡ true) w [] e (All-nil (λ u. f u ≡ true))
+    last false e = All-nil (λ u. f u ≡ true)
 
 members_hold : (w : ℕ) (f : ℕ → Bool) (u : ℕ) → u < w → f u ≡ true → Memᴰ u (members w f)
 unfolding members
@@ -50,11 +50,11 @@ module _ {L : Type 0} (op : Formula L → Formula L → Formula L) (none : Formu
       → (fs : List (Formula L)) → All P fs → P (joined op none fs)
   unfolding joined joined_to
   joined-all P keeps empty [] h = empty
-  joined-all P keeps empty (f ∷ fs) h = go f fs h.0 h.1
+  joined-all P keeps empty (f ∷ fs) h = go f fs (All-head P f fs h) (All-tail P f fs h)
     where
       go : (f : Formula L) (fs : List (Formula L)) → P f → All P fs → P (joined_to op f fs)
       go f [] x h = x
-      go f (g ∷ gs) x h = go (op f g) gs (keeps f g (x, h.0)) h.1
+      go f (g ∷ gs) x h = go (op f g) gs (keeps f g (x, All-head P g gs h)) (All-tail P g gs h)
 
   -- what some part has, if joining keeps it from either side
   joined_some : (P : Formula L → Type 0) → ((f g : Formula L) → P f ⊎ P g → P (op f g))
@@ -76,7 +76,7 @@ module _ {L : Type 0} (op : Formula L → Formula L → Formula L) (none : Formu
     pub joined_each : (P : Formula L → Type 0) → ((f g : Formula L) → P f × P g → P (op f g)) → P none
         → ((u : ℕ) → test u ≡ true → P (φ u)) → P (joined op none (map φ (members w test)))
     joined_each P keeps empty each =
-        joined-all P keeps empty _ (All-map P φ (members w test) (All-weaker _ _ each (members w test) (members_pass w test)))
+        joined-all P keeps empty _ (All-map P φ (members w test) (All-weaker (λ u. test u ≡ true) (λ u. P (φ u)) each (members w test) (members_pass w test)))
 
     pub joined_one : (P : Formula L → Type 0) → ((f g : Formula L) → P f ⊎ P g → P (op f g))
         → (u : ℕ) → u < w → test u ≡ true → P (φ u) → P (joined op none (map φ (members w test)))

@@ -1,8 +1,8 @@
 -- Every struck pair unfolds to a formula that tells its states apart and is exactly as deep as the pair's round.
 use Rattle.std.proofs.Common.{◌≡◌, ℕ, zero, suc, ◌<◌, ◌≤◌, Bool, true, false, ◌⊎◌, List, [], ◌∷◌, map, sym, refl, ap, ◌∙◌, inl, inr, ⊎_elim, arith}
 use mathlib.Core.Logic.{⊎_map}
-use Rattle.std.specs.List.{AllByRecursion as All}
-use Rattle.std.proofs.ByRecursion.{All-weaker}
+use Rattle.std.specs.List.{All}
+use Rattle.std.proofs.lemmas.List.Elements.{All-head, All-tail, All-weaker}
 use Rattle.std.proofs.lemmas.Bool.{false≢true, cases_lt}
 use Rattle.systems.specs.Label.{Preorder}
 use Rattle.systems.specs.Meaning.{Meaning, Bounded}
@@ -18,13 +18,19 @@ use Rattle.preorder.proofs.Rounds.{related_says, related_from, related_is}
 use Rattle.preorder.proofs.Joined.{members_pass, joined_each, joined_one, gathered}
 
 module _ {L : Type 0} (m n : Meaning L) (k : ℕ) (c : Cells) (φ : ℕ → Formula L) where
-  unfolds_across : (t : ℕ) (us : List ℕ) → All (λ u. Unfolds m n k c t u (φ u)) us → UnfoldsAcross m n k c t us (map φ us)
-  unfolds_across t [] h = across_none
-  unfolds_across t (u ∷ us) h = across_more h.0 (unfolds_across t us h.1)
+  abbrev across : ℕ → ℕ → Type 0
+  across t u = Unfolds m n k c t u (φ u)
 
-  unfolds_along : (u : ℕ) (ts : List ℕ) → All (λ t. Unfolds m n k c t u (φ t)) ts → UnfoldsAlong m n k c ts u (map φ ts)
+  abbrev along : ℕ → ℕ → Type 0
+  along u t = Unfolds m n k c t u (φ t)
+
+  unfolds_across : (t : ℕ) (us : List ℕ) → All (across t) us → UnfoldsAcross m n k c t us (map φ us)
+  unfolds_across t [] h = across_none
+  unfolds_across t (u ∷ us) h = across_more (All-head (across t) u us h) (unfolds_across t us (All-tail (across t) u us h))
+
+  unfolds_along : (u : ℕ) (ts : List ℕ) → All (along u) ts → UnfoldsAlong m n k c ts u (map φ ts)
   unfolds_along u [] h = along_none
-  unfolds_along u (t ∷ ts) h = along_more h.0 (unfolds_along u ts h.1)
+  unfolds_along u (t ∷ ts) h = along_more (All-head (along u) t ts h) (unfolds_along u ts (All-tail (along u) t ts h))
 
 -- the pair unfolds to f, which is as deep as the pair's round, true of the first state and false of the second
 record Separates {L : Type 0} (below : L → L → Bool) (m n : Meaning L) (k : ℕ) (c : Cells) (p q : ℕ) (f : Formula L) : Type 0 where
@@ -85,7 +91,7 @@ module _ {L : Type 0} (below : L → L → Bool) (m n : Meaning L) (bm : Bounded
           _,
           record {
             unfolds = by_forth _ (omega arith) kind
-                (unfolds_across m n k c parts.0 t _ (All-weaker _ _ (λ u x. (parts.1 u x).unfolds) _ (members_pass n.states (n.moves q a))));
+                (unfolds_across m n k c parts.0 t _ (All-weaker _ (across m n k c parts.0 t) (λ u x. (parts.1 u x).unfolds) _ (members_pass n.states (n.moves q a))));
             deep = ap suc parts.2 ∙ sym struck;
             holds = (t, says.0, joined_each both top _ _ parts.0 (Satisfies below m t) (λ f g h. h) tt (λ u x. (parts.1 u x).holds));
             fails = λ x. joined_one both top _ _ parts.0 (λ f. Satisfies below n x.0 f → ⊥)
@@ -108,7 +114,7 @@ module _ {L : Type 0} (below : L → L → Bool) (m n : Meaning L) (bm : Bounded
           _,
           record {
             unfolds = by_back _ (omega arith) kind
-                (unfolds_along m n k c parts.0 u _ (All-weaker _ _ (λ t x. (parts.1 t x).unfolds) _ (members_pass m.states (m.moves p a))));
+                (unfolds_along m n k c parts.0 u _ (All-weaker _ (along m n k c parts.0 u) (λ t x. (parts.1 t x).unfolds) _ (members_pass m.states (m.moves p a))));
             deep = ap suc parts.2 ∙ sym struck;
             holds = (
               closed,

@@ -1,1 +1,2 @@
 // The theory of prebisimulations: definitions in specs/, proofs in proofs/. There is no code here.
+#![tactic(auto)]

@@ -1,6 +1,6 @@
 // The open layer and the closed layer: the system below with every mark set, and with none.
 ghost use Rattle.views.specs.Layers.{all_open, all_closed, present};
-ghost use borrow.Author.Rules.{rules};
+ghost use Rattle.std.proofs.Common.{rules};
 
 use crate::sets;
 use systems::label::Label;

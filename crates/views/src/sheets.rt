@@ -1,8 +1,8 @@
 // Lent sheets, and the counts and the start of a tabled system.
 ghost use Rattle.std.specs.Prelude.{◌≡◌, ◌<◌, ◌≤◌, List, slice_index_or};
 
-// A row of cells that can be looked up. A reference's lifetime may not stand in an impl of a trait with laws, so the tabled
-// system is written over this trait, and the lifetime stands in the one impl below.
+// A row of cells that can be looked up. The tabled system is written over this trait, and the lifetime of a lent sheet stands in the
+// one impl below.
 pub trait Sheet<T: Copy> {
     ghost cells: { Self → List T };
 

@@ -1,5 +1,5 @@
-use Rattle.std.proofs.Common.{◌≡◌, cond, ltb, sym, ap, ◌∙◌, arith}
-use Rattle.std.proofs.lemmas.Bool.Decides.{nat_tests}
+use Rattle.std.proofs.Common.{◌≡◌, Bool, cond, ltb, sym, ap, ◌∙◌, arith}
+use Rattle.std.proofs.lemmas.Bool.{lt-ltb, le-ltb}
 use Rattle.filing.specs.Contents.{label_in, label_or}
 use Rattle.filing.proofs.Asking.{filed, filed-fits, filed_meaning, asks_less, asks_on, asks_all}
 use Rattle.filing.proofs.filed.FiledSystem.label.Goals as goal
@@ -18,8 +18,12 @@ loop-said-preserved g c =
 
 pub returns : goal.returns
 returns g c =
-    let state : c.if-p-header.state ≡ cond (ltb c.args.p c.args.self.now.header.states) c.args.p c.args.self.now.header.start =
-    elim c.if-p-header.branch [ then-p-header w ↦ grind (arith, nat_tests, w.state-is) | else-p-header w ↦ grind (arith, nat_tests, w.state-is) ] in
+    let either = λ (b : Bool). cond b c.args.p c.args.self.now.header.start in
+    let state : c.if-p-header.state ≡ either (ltb c.args.p c.args.self.now.header.states) =
+    elim c.if-p-header.branch [
+      | then-p-header w ↦ w.state-is ∙ ap either (sym (lt-ltb _ _ w.if-p-header.true))
+      | else-p-header w ↦ w.state-is ∙ ap either (sym (le-ltb _ _ w.if-p-header.false))
+    ] in
     asks_all g.L.Label.read c.args.self.now _ _ _ c.loop-said.invariant c.in_default.ensures
     ∙ ap (label_in g.L.Label.plain (filed g.L.Label.read c.args.self.now).records) state
     ∙ sym (ap (λ m. m.label c.args.p) (filed_meaning g.L.Label.read c.args.self.now g.L.Label.plain))
