@@ -1,18 +1,13 @@
 -- A grid is laid row by row, and a row cell by cell.
-use Rattle.std.proofs.Common.{◌≡◌, ℕ, zero, suc, ◌+◌, ◌/◌, ◌%◌, ◌<◌, ◌≤◌, ◌≢◌, List, [], ◌∷◌, get_or, set, sym, refl, ap, ◌∙◌, ap₂, suc-mul, zero-mul, add-one, arith}
+use Rattle.std.proofs.Common.{◌≡◌, ℕ, zero, suc, ◌+◌, ◌/◌, ◌%◌, ◌<◌, ◌≤◌, ◌≢◌, List, get_or, set, sym, refl, ap, ◌∙◌, ap₂, suc-mul, zero-mul, add-one, arith}
 use Rattle.std.proofs.lemmas.Nat.{div-mul-add, mod-mul-add}
 use Rattle.std.proofs.lemmas.List.{get_or-set_other, set-get_or}
-use Rattle.comparison.specs.Grid.{place, overlaid, laid}
+use Rattle.systems.specs.Cells.{written}
+use Rattle.systems.proofs.Cells.{written_suc}
+use Rattle.comparison.specs.Grid.{place, laid}
 use Rattle.comparison.specs.Search.{row_filled}
 
 module _ {X : Type 0} where
-  overlaid_more : (i : ℕ) (f : ℕ → X) (xs : List X) → set (overlaid i f xs) i (f i) ≡ overlaid (suc i) f xs
-  unfolding overlaid
-  overlaid_more zero f [] = refl
-  overlaid_more zero f (x ∷ xs) = refl
-  overlaid_more (suc i) f [] = refl
-  overlaid_more (suc i) f (x ∷ xs) = ap (λ (ys : List X). f 0 ∷ ys) (overlaid_more i (λ j. f (suc j)) xs)
-
   pub row_filled_none : (width p : ℕ) (f : ℕ → X) (xs : List X) → row_filled width p 0 f xs ≡ xs
   unfolding row_filled
   row_filled_none width p f xs = refl
@@ -41,10 +36,10 @@ module _ {X : Type 0} where
 module _ {X : Type 0} (width : ℕ) (f : ℕ → ℕ → X) (xs : List X) where
   -- the grid up to a place
   abbrev laid_to : ℕ → List X
-  laid_to count = overlaid count (λ i. f (i / width) (i % width)) xs
+  laid_to count = written count (λ i. f (i / width) (i % width)) xs
 
   pub laid_none : xs ≡ laid 0 width f xs
-  unfolding overlaid
+  unfolding written
   laid_none = rw zero-mul
 
   row_laid : (p : ℕ) (g : ℕ → X) → ((q : ℕ) → q < width → g q ≡ f p q) → (q : ℕ) → q ≤ width
@@ -54,7 +49,7 @@ module _ {X : Type 0} (width : ℕ) (f : ℕ → ℕ → X) (xs : List X) where
   row_laid p g e (suc q) h =
       ap₂ (λ (ys : List X) (x : X). set ys (place width p q) x) (row_laid p g e q (omega arith))
       (e q h ∙ sym (ap₂ f (div-mul-add p width q h) (mod-mul-add p width q h)))
-      ∙ overlaid_more (place width p q) _ xs ∙ ap laid_to (omega arith)
+      ∙ written_suc _ xs (place width p q) ∙ ap laid_to (omega arith)
 
   -- one row more
   pub laid_more : (p : ℕ) (g : ℕ → X) (ys zs : List X) → ys ≡ laid p width f xs → zs ≡ row_filled width p width g ys

@@ -3,6 +3,8 @@ ghost use Rattle.std.specs.Prelude.{◌≡◌, ◌*◌, slice_set};
 ghost use Rattle.std.specs.List.{slice_get};
 ghost use Rattle.comparison.specs.Grid.{place};
 
+use systems::sheet::set_cell;
+
 // how many rows a grid has, and how many cells a row has
 #[derive(Clone, Copy, PartialEq, Eq, Debug)]
 pub struct Grid {
@@ -40,8 +42,6 @@ impl Grid {
         ensures { cells.new ≡ slice_set cells.old (place self.now.width p q) value }
     {
         let i = self.place(p, q);
-        if i < cells.len() {
-            cells[i] = value;
-        }
+        set_cell(cells, i, value);
     }
 }

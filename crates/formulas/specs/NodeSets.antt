@@ -1,5 +1,5 @@
 -- The set of a node as the code makes it: from the sets of the nodes before it.
-use Rattle.std.specs.Prelude.{ℕ, Bool, not, ◌&&◌, ◌||◌, ltb, List, bit_and, bit_or, nat_lt, slice_index}
+use Rattle.std.specs.Prelude.{ℕ, Bool, not, ◌&&◌, ◌||◌, List, bit_and, bit_or, nat_lt, slice_index}
 use Rattle.systems.specs.Meaning.{Meaning}
 use Rattle.systems.specs.Sets.{has, set_of, every, some_of}
 use Rattle.formulas.specs.declared.node.Node.{Node}
@@ -19,7 +19,7 @@ must_enter m a s p = not (m.marks p a) && every m.states (λ t. not (m.moves p a
 
 -- a node's set
 abbrev pub node_set : {L : Type 0} → (L → L → Bool) → Meaning L → List ℕ → Node L → ℕ
-node_set below m sets True = set_of 64 (λ p. ltb p m.states)
+node_set below m sets True = set_of 64 (λ p. nat_lt p m.states)
 node_set below m sets False = 0
 node_set below m sets (Label l) = states_where m (λ p. below l (m.label p))
 node_set below m sets (And i j) = bit_and (slice_index sets i) (slice_index sets j)

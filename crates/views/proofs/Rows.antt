@@ -8,9 +8,9 @@ use Rattle.std.proofs.lemmas.Bool.{lt-ltb, ltb-true, and_parts}
 use Rattle.systems.specs.Meaning.{Meaning, Bounded}
 use Rattle.systems.specs.Sets.{has, set_of, some_of}
 use Rattle.systems.proofs.Sets.{has-set_of, set_of_cong, set_of_none, set_of_or, some_cong, some_within}
-use Rattle.views.specs.Tabled.{written}
+use Rattle.systems.specs.Cells.{written}
 use Rattle.views.specs.Weak.{overlap, leads, through, silent, rows_through, silent_rows, loops, diverging}
-use Rattle.views.proofs.Tables.{get_or-written, get_or-written_past}
+use Rattle.systems.proofs.Cells.{get_or-written, get_or-written_past}
 
 -- ---- joining rows
 
@@ -56,7 +56,7 @@ module _ {L : Type 0} (m : Meaning L) where
 module _ {L : Type 0} (m : Meaning L) (bounded : Bounded m) where
   pub row_held : (k p : ℕ) → p < m.states → slice_index (rows_through m k) p ≡ set_of 64 (through m k p)
   unfolding rows_through
-  row_held k p h = get_or-written _ (replicate 64 0) m.states p 0 h bounded.few_states
+  row_held k p h = get_or-written _ (replicate 64 0) m.states p 0 h (omega (arith, bounded.few_states))
 
   -- of a row that the pass has not come to yet
   pub row_kept : (f : ℕ → ℕ) (rows : List ℕ) (k p : ℕ) → p < m.states → rows ≡ written p f (rows_through m k) → slice_index rows p ≡ set_of 64 (through m k p)

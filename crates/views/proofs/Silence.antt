@@ -8,7 +8,8 @@ use Rattle.std.proofs.lemmas.Bool.Decides.{Decides-at}
 use Rattle.systems.specs.Meaning.{Meaning, Bounded}
 use Rattle.systems.specs.Sets.{some_of, count}
 use Rattle.systems.proofs.Sets.{some_decides}
-use Rattle.views.proofs.Masks.{count_le, count_less}
+use Rattle.systems.proofs.Sets.{count_bounded}
+use Rattle.views.proofs.Masks.{count_less}
 use Rattle.views.specs.Weak.{Silently, stay, step, Diverges, Weakly, leads, through, silent, loops, diverging, comes, view_moves, opens, view_marks, view_by, WeakView}
 
 -- ---- silent moves
@@ -149,7 +150,7 @@ module _ {L : Type 0} (m : Meaning L) (bounded : Bounded m) where
 
       -- with no loop on the way each step leaves a state behind for good, and there are only so many
       fewer : (s : Diverges m p) → diverging m p ≡ false → (i : ℕ) → count m.states (silent m (s.0 i)) + i ≤ m.states
-      fewer s e zero = let h = count_le m.states (silent m (s.0 0)) in omega arith
+      fewer s e zero = let h = count_bounded m.states (silent m (s.0 0)) in omega arith
       fewer s e (suc i) =
           let h = fewer s e i in
           let less = count_less (silent m (s.0 (suc i))) (silent m (s.0 i)) m.states

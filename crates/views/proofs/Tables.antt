@@ -1,69 +1,19 @@
 -- The sheets of a tabled system hold its tables, and tables stand for the system itself.
-use Rattle.std.specs.Prelude.{◌≡◌, ℕ, zero, suc, ◌+◌, ◌*◌, ◌<◌, ◌≤◌, Bool, true, cond, ◌⊎◌, List, length, get_or, set, Ok, ◌≢◌, nat_le, nat_lt, slice_index, slice_index_or, slice_set}
-use Rattle.std.proofs.Math.Path.{refl, ap, ap₂, subst₃}
-use Rattle.std.proofs.Common.{sym, subst, ◌∙◌, inl, inr, arith}
+use Rattle.std.specs.Prelude.{◌≡◌, ℕ, ◌+◌, ◌*◌, ◌<◌, ◌≤◌, Bool, true, cond, ◌⊎◌, List, length, get_or, Ok, nat_le, nat_lt, slice_index, slice_index_or}
+use Rattle.std.proofs.Math.Path.{ap, ap₂, subst₃}
+use Rattle.std.proofs.Common.{sym, ◌∙◌, inl, inr, arith}
 use Rattle.std.proofs.Math.Nat.{mul_comm}
-use Rattle.std.proofs.Math.Numerals.{add-one}
-use Rattle.std.proofs.lemmas.List.{length-set, get_or-set_same, get_or-set_other, set_comm, set-set}
 use Rattle.std.proofs.lemmas.Nat.{mul-add-lt, div-mul-add, mod-mul-add}
-use Rattle.std.proofs.lemmas.Bool.{cases_eq, cases_lt, lt-ltb, le-ltb, ltb-true, leb-true, and_parts, and_from, cond-true}
+use Rattle.std.proofs.lemmas.Bool.{cases_lt, lt-ltb, le-ltb, ltb-true, leb-true, and_parts, and_from, cond-true}
 use Rattle.systems.specs.Meaning.{Meaning, Bounded}
 use Rattle.systems.specs.Sets.{has, set_of}
 use Rattle.systems.proofs.Sets.{has-set_of}
 use Rattle.views.proofs.Masks.{same_tests}
 use Rattle.views.specs.declared.sheets.Shape.{Shape}
-use Rattle.views.specs.Tabled.{written, room, Tables, Tabulates, move_sheet, mark_sheet, label_sheet, by_sheets}
+use Rattle.systems.proofs.Cells.{get_or-written}
+use Rattle.views.specs.Tabled.{room, Tables, Tabulates, move_sheet, mark_sheet, label_sheet, by_sheets}
 
--- ---- written sheets
-
-module _ {X : Type 0} (f : ℕ → X) (xs : List X) where
-  pub length-written : (n : ℕ) → length (written n f xs) ≡ length xs
-  unfolding written
-  length-written zero = refl
-  length-written (suc n) = length-set (written n f xs) n (f n) ∙ length-written n
-
-  pub written_none : xs ≡ written 0 f xs
-  unfolding written
-  written_none = refl
-
-  pub written_more : (k : ℕ) (ys : List X) (x : X) → ys ≡ written k f xs → x ≡ f k → slice_set ys k x ≡ written (k + 1) f xs
-  unfolding written
-  written_more k ys x e d = rw add-one (ap₂ (λ zs z. set zs k z) e d)
-
-  pub written_all : (k n : ℕ) (ys : List X) → ys ≡ written k f xs → k ≡ n → ys ≡ written n f xs
-  written_all k n ys e d = e ∙ ap (λ j. written j f xs) d
-
-  pub get_or-written : (n k : ℕ) (d : X) → k < n → n ≤ length xs → slice_index_or (written n f xs) k d ≡ f k
-  unfolding written
-  get_or-written zero k d h l = absurd (omega arith)
-  get_or-written (suc n) k d h l = go (cases_eq k n) (λ lt. get_or-written n k d lt (omega arith))
-    where
-      go : (k ≡ n) ⊎ (k ≢ n) → (k < n → slice_index_or (written n f xs) k d ≡ f k) → slice_index_or (slice_set (written n f xs) n (f n)) k d ≡ f k
-      go (inl e) rest =
-          ap (λ j. get_or (slice_set (written n f xs) n (f n)) j d) e
-          ∙ get_or-set_same (written n f xs) n (f n) d (subst (λ m. n < m) (sym (length-written n)) l) ∙ ap f (sym e)
-      go (inr ne) rest = get_or-set_other (written n f xs) n k (f n) d ne ∙ rest (omega arith)
-
-  -- cells past those written stay
-  pub get_or-written_past : (n k : ℕ) (d : X) → n ≤ k → slice_index_or (written n f xs) k d ≡ slice_index_or xs k d
-  unfolding written
-  get_or-written_past zero k d h = refl
-  get_or-written_past (suc n) k d h = get_or-set_other (written n f xs) n k (f n) d (omega arith) ∙ get_or-written_past n k d (omega arith)
-
--- what is written twice keeps what was written last
-module _ {X : Type 0} (f : ℕ → X) where
-  written-set : (n k : ℕ) (xs : List X) (x : X) → n ≤ k → written n f (slice_set xs k x) ≡ slice_set (written n f xs) k x
-  unfolding written
-  written-set zero k xs x h = refl
-  written-set (suc n) k xs x h =
-      ap (λ ys. set ys n (f n)) (written-set n k xs x (omega arith)) ∙ set_comm (written n f xs) k n x (f n) (omega arith)
-
-  pub written_over : (g : ℕ → X) (n : ℕ) (xs : List X) → written n f (written n g xs) ≡ written n f xs
-  unfolding written
-  written_over g zero xs = refl
-  written_over g (suc n) xs =
-      ap (λ ys. set ys n (f n)) (written-set n n (written n g xs) (g n) (omega arith) ∙ ap (λ ys. set ys n (g n)) (written_over g n xs))
-      ∙ set-set (written n f xs) n (g n) (f n)
+-- ---- the tables as they are written
 
 module _ {L : Type 0} (m : Meaning L) (plain : L) (s : Shape) (moves marks : List ℕ) (labels : List L) where
   pub tables_written : s.states ≡ m.states → s.actions ≡ m.actions → s.start ≡ m.start
@@ -76,10 +26,10 @@ module _ {L : Type 0} (m : Meaning L) (plain : L) (s : Shape) (moves marks : Lis
     start = e₃;
     moves_held = λ p a here there.
         let cell : p * m.actions + a < m.states * m.actions = omega (arith, mul-add-lt p m.actions a m.states here there, mul_comm m.actions m.states) in
-        get_or-written _ moves (m.states * m.actions) (p * m.actions + a) 0 cell h
+        get_or-written _ moves (m.states * m.actions) (p * m.actions + a) 0 cell (omega arith)
         ∙ ap₂ (λ q b. set_of 64 (m.moves q b)) (div-mul-add p m.actions a there) (mod-mul-add p m.actions a there);
-    marks_held = λ p here. get_or-written _ marks m.states p 0 here k;
-    labels_held = λ p here. get_or-written m.label labels m.states p plain here l;
+    marks_held = λ p here. get_or-written _ marks m.states p 0 here (omega arith);
+    labels_held = λ p here. get_or-written m.label labels m.states p plain here (omega arith);
   }
 
   -- what tabulating answers, from what the three writes leave

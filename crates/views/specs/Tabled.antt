@@ -1,5 +1,6 @@
 -- Systems held as sheets: what is written, what the sheets then hold, and what sheets of any content mean.
-use Rattle.std.specs.Prelude.{◌≡◌, ℕ, zero, suc, ◌+◌, ◌*◌, ◌/◌, ◌%◌, ◌<◌, Bool, true, false, cond, ◌&&◌, List, length, Result, MatchResult, nat_le, nat_lt, slice_index, slice_index_or, slice_set}
+use Rattle.std.specs.Prelude.{◌≡◌, ℕ, ◌+◌, ◌*◌, ◌/◌, ◌%◌, ◌<◌, Bool, true, false, cond, ◌&&◌, List, length, Result, MatchResult, nat_le, nat_lt, slice_index, slice_index_or}
+use Rattle.systems.specs.Cells.{written}
 use Rattle.systems.specs.Meaning.{Meaning, Bounded}
 use Rattle.systems.specs.Sets.{has, set_of}
 use Rattle.views.specs.declared.refusal.Refusal.{Refusal}
@@ -11,11 +12,6 @@ use Rattle.std.specs.Borrow.{Bor}
 -- whether sheets of these lengths have a cell of moves for each state and action, and of marks and of labels for each state
 abbrev pub room : ℕ → ℕ → ℕ → ℕ → ℕ → Bool
 room states actions moves marks labels = nat_le (states * actions) moves && (nat_le states marks && nat_le states labels)
-
--- xs with its first n cells written: cell k holds f k
-unfoldable pub written : {X : Type 0} → ℕ → (ℕ → X) → List X → List X
-written zero f xs = xs
-written (suc n) f xs = slice_set (written n f xs) n (f n)
 
 -- Three sheets hold the tables of m, and the shape its counts and start. Cell p * actions + a of the first is the set of
 -- the states that p reaches by a; cell p of the second is the set of the actions that p is open on.

@@ -1,8 +1,8 @@
 -- The weak view of a system: action 0 is silent, and in the view its place is taken by any number of silent moves.
 use Rattle.std.specs.Prelude.{◌≡◌, ℕ, zero, suc, ◌<◌, Bool, true, cond, ◌&&◌, ◌||◌, ◌⊎◌, List, replicate, Decides, ◌==◌, nat_lt, slice_index}
+use Rattle.systems.specs.Cells.{written}
 use Rattle.systems.specs.Meaning.{Meaning}
 use Rattle.systems.specs.Sets.{has, set_of, some_of}
-use Rattle.views.specs.Tabled.{written}
 
 -- ---- what the view is
 

@@ -3,9 +3,8 @@ ghost use Rattle.std.specs.Prelude.{◌≡◌, suc, ◌<◌, ◌≤◌, if◌the
 ghost use Rattle.systems.specs.Sets.{has, set_of};
 ghost use Rattle.views.specs.Weak.{leads, rows_through, silent_rows, loops, diverging};
 
-use crate::sets;
 use systems::label::Label;
-use systems::masks::{contains, meets};
+use systems::masks::{contains, insert, insert_if, meets};
 use systems::system::System;
 
 // joins a row to what was found, where the row's state is in the set
@@ -55,7 +54,7 @@ fn first_rows<L: Label, S: System<L>>(below: &S) -> [u64; 64]
 {
     let mut rows = [0; 64];
     for p in 0..below.states() {
-        rows[p as usize] = sets::with_state(below.reach(p, 0), p, true);
+        rows[p as usize] = insert(below.reach(p, 0), p);
     }
     rows
 }
@@ -96,7 +95,7 @@ fn looping<L: Label, S: System<L>>(below: &S, rows: &[u64; 64]) -> u64
 {
     let mut found = 0;
     for t in 0..below.states() {
-        found = sets::with_state(found, t, comes_back(below, rows, t));
+        found = insert_if(found, t, comes_back(below, rows, t));
     }
     found
 }
@@ -108,7 +107,7 @@ pub fn diverging_states<L: Label, S: System<L>>(below: &S, rows: &[u64; 64]) -> 
     let loops = looping(below, rows);
     let mut found = 0;
     for p in 0..below.states() {
-        found = sets::with_state(found, p, meets(rows[p as usize], loops));
+        found = insert_if(found, p, meets(rows[p as usize], loops));
     }
     found
 }

@@ -1,6 +1,8 @@
 // Lent sheets, and the counts and the start of a tabled system.
 ghost use Rattle.std.specs.Prelude.{◌≡◌, ◌<◌, ◌≤◌, List, slice_index_or};
 
+use systems::sheet::cell_or;
+
 // A row of cells that can be looked up. The tabled system is written over this trait, and the lifetime of a lent sheet stands in the
 // one impl below.
 pub trait Sheet<T: Copy> {
@@ -11,17 +13,11 @@ pub trait Sheet<T: Copy> {
         ensures { result ≡ slice_index_or (cells self.now) i past };
 }
 
-fn cell<T: Copy>(cells: &[T], i: usize, past: T) -> T
-    ensures { result ≡ slice_index_or cells.now i past }
-{
-    if i < cells.len() { cells[i] } else { past }
-}
-
 impl<'a, T: Copy> Sheet<T> for &'a [T] {
     ghost cells = { λ s. s.now };
 
     fn at(&self, i: usize, past: T) -> T {
-        cell(self, i, past)
+        cell_or(self, i, past)
     }
 }
 

@@ -4,9 +4,9 @@ ghost use Rattle.systems.specs.Sets.{has, set_of};
 ghost use Rattle.views.specs.Weak.{overlap, comes, view_moves, view_marks, view_over, silent_rows, diverging, WeakView};
 ghost use Rattle.views.specs.Bounds.{view_bounded};
 
-use crate::{closure, sets};
+use crate::closure;
 use systems::label::Label;
-use systems::masks::{all_below, contains, meets};
+use systems::masks::{all_below, as_actions, contains, insert_if, meets};
 use systems::system::System;
 
 // Its meaning is the view by what the two tables hold; `weak_view` computes them, once.
@@ -62,9 +62,9 @@ fn weak_open<L: Label, S: System<L>>(below: &S, rows: &[u64; 64], diverging: u64
     }
     let mut open = 0;
     for a in 0..below.actions() {
-        open = sets::with_action(open, a, diverges_by(below, rows, diverging, p, a));
+        open = insert_if(open, a, diverges_by(below, rows, diverging, p, a));
     }
-    open
+    as_actions(open)
 }
 
 // The weak view of a system: action 0 is silent.

@@ -8,7 +8,7 @@ use Rattle.comparison.specs.Grid.{laid, place}
 use Rattle.comparison.specs.Search.{row_filled, strike_for, strike_over, strikes_over, struck_over}
 use Rattle.comparison.specs.Sheet.{blank_strike, cells_of}
 use Rattle.comparison.proofs.Counts.{count-row, pairs_few}
-use Rattle.comparison.proofs.GridLaws.{overlaid_past}
+use Rattle.systems.proofs.Cells.{get_or-written_past}
 use Rattle.comparison.proofs.Rows.{laid_none, laid_more}
 use Rattle.comparison.proofs.striking.strike_rows.Goals as goal
 
@@ -26,7 +26,7 @@ module _ {L : Type 0} (m n : Meaning L) (R : Relation) (k : ℕ) (before : List 
     untouched q =
         ap (λ (s : Strike). unwrap_or (strike_for k (strikes_over m n R p q)) s)
         (ap (λ (zs : List Strike). get_or zs (place n.states p q) blank_strike) done.1
-        ∙ overlaid_past (p * n.states) _ before (place n.states p q) blank_strike (omega arith))
+        ∙ get_or-written_past _ before (p * n.states) (place n.states p q) blank_strike (omega arith))
 
     one_more_row : row ≡ count n.states (struck_over m n R p)
         → after ≡ row_filled n.states p n.states (strike_over m n R k (cells_of n.states sheet) p) sheet → Done (p + 1) (struck + row) after

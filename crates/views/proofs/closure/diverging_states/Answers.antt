@@ -1,8 +1,7 @@
 use Rattle.std.proofs.Common.{◌&&◌, ltb, sym, ap, ◌∙◌, arith}
 use Rattle.systems.specs.Sets.{set_of}
-use Rattle.systems.proofs.Sets.{front_none}
+use Rattle.systems.proofs.Sets.{front_none, set_more}
 use Rattle.views.specs.Weak.{diverging}
-use Rattle.views.proofs.Masks.{set_more}
 use Rattle.views.proofs.Rows.{diverging-found, diverging-all}
 use Rattle.views.proofs.closure.diverging_states.Goals as goal
 
@@ -14,7 +13,7 @@ loop-p-preserved g c =
     let m = g.S.System.meaning c.args.below.now in
     let b = g.met.S.System.bounded c.args.below.now in
     let p = c.loop-p.p in
-    c.with_state-found.ensures
+    c.insert_if-found.ensures
     ∙ set_more 64 p _ (diverging m) _ c.loop-p.invariant
     (c.meets.ensures ∙ diverging-found m b _ c.requires p _ (omega arith) c.looping-loops.ensures)
 

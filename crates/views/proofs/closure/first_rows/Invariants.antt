@@ -1,6 +1,6 @@
 use Rattle.std.proofs.Common.{◌≡◌, replicate}
 use Rattle.systems.specs.Sets.{set_of}
-use Rattle.views.specs.Tabled.{written}
+use Rattle.systems.specs.Cells.{written}
 use Rattle.views.specs.Weak.{through}
 use Rattle.views.proofs.closure.first_rows.Given as goal
 

@@ -1,8 +1,7 @@
 use Rattle.std.proofs.Common.{◌&&◌, ltb, sym, ap, ◌∙◌, arith}
 use Rattle.systems.specs.Sets.{set_of}
-use Rattle.systems.proofs.Sets.{front_none}
+use Rattle.systems.proofs.Sets.{front_none, set_more}
 use Rattle.views.specs.Weak.{loops}
-use Rattle.views.proofs.Masks.{set_more}
 use Rattle.views.proofs.Rows.{loops-found, loops-all}
 use Rattle.views.proofs.closure.looping.Goals as goal
 
@@ -13,7 +12,7 @@ pub loop-t-preserved : goal.loop-t-preserved
 loop-t-preserved g c =
     let m = g.S.System.meaning c.args.below.now in
     let b = g.met.S.System.bounded c.args.below.now in
-    c.with_state-found.ensures
+    c.insert_if-found.ensures
     ∙ set_more 64 c.loop-t.t _ (loops m) _ c.loop-t.invariant (c.comes_back.ensures ∙ loops-found m b _ c.requires c.loop-t.t (omega arith))
 
 pub returns : goal.returns

@@ -1,7 +1,7 @@
 use Rattle.std.proofs.Common.{get_or, ap, ◌∙◌, arith}
 use Rattle.views.specs.Weak.{rows_through}
 use Rattle.views.proofs.Rows.{next_row, row_held, row_kept}
-use Rattle.views.proofs.Tables.{written_none, written_more, written_all, written_over}
+use Rattle.systems.proofs.Cells.{written_none, written_more, written_all, written_over}
 use Rattle.views.proofs.closure.pass.Goals as goal
 
 pub loop-p-init : goal.loop-p-init

@@ -1,6 +1,6 @@
 use Rattle.std.proofs.Common.{◌≡◌, suc}
 use Rattle.systems.specs.Sets.{set_of}
-use Rattle.views.specs.Tabled.{written}
+use Rattle.systems.specs.Cells.{written}
 use Rattle.views.specs.Weak.{through, rows_through}
 use Rattle.views.proofs.closure.pass.Given as goal
 

@@ -1,5 +1,5 @@
 use Rattle.std.proofs.Common.{◌≡◌}
-use Rattle.views.specs.Tabled.{written}
+use Rattle.systems.specs.Cells.{written}
 use Rattle.views.proofs.tabled.write_labels.Given as goal
 
 abbrev pub invariant-loop-p : goal.invariant-loop-p

@@ -1,6 +1,6 @@
 use Rattle.std.proofs.Common.{arith}
 use Rattle.views.specs.Tabled.{mark_sheet}
-use Rattle.views.proofs.Tables.{written_none, written_more, written_all}
+use Rattle.systems.proofs.Cells.{written_none, written_more, written_all}
 use Rattle.views.proofs.tabled.write_marks.Goals as goal
 
 pub loop-p-init : goal.loop-p-init

@@ -1,6 +1,6 @@
 use Rattle.std.proofs.Common.{◌≡◌}
 use Rattle.systems.specs.Sets.{set_of}
-use Rattle.views.specs.Tabled.{written}
+use Rattle.systems.specs.Cells.{written}
 use Rattle.views.proofs.tabled.write_marks.Given as goal
 
 abbrev pub invariant-loop-p : goal.invariant-loop-p

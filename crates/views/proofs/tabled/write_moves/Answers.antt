@@ -2,7 +2,7 @@ use Rattle.std.proofs.Common.{◌≡◌, ◌*◌, ◌/◌, ◌%◌, ap, ◌∙�
 use Rattle.std.proofs.lemmas.Nat.{div_below}
 use Rattle.systems.specs.Sets.{set_of}
 use Rattle.views.specs.Tabled.{move_sheet}
-use Rattle.views.proofs.Tables.{written_none, written_more, written_all}
+use Rattle.systems.proofs.Cells.{written_none, written_more, written_all}
 use Rattle.views.proofs.tabled.write_moves.Goals as goal
 
 pub loop-k-init : goal.loop-k-init

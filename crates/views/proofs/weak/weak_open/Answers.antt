@@ -1,7 +1,6 @@
 use Rattle.std.proofs.Common.{sym, ◌∙◌, arith}
 use Rattle.std.proofs.lemmas.Bool.{le-ltb}
-use Rattle.systems.proofs.Sets.{front_none}
-use Rattle.views.proofs.Masks.{set_more}
+use Rattle.systems.proofs.Sets.{front_none, set_more, set_of_low}
 use Rattle.views.proofs.Viewing.{opens-found, marks_found, marks_absent}
 use Rattle.views.proofs.weak.weak_open.Goals as goal
 
@@ -11,18 +10,18 @@ returns-then-p-states g c =
     marks_absent (g.S.System.meaning x.below.now) (g.met.S.System.bounded x.below.now) x.rows.now x.diverging x.p (le-ltb _ _ (omega arith))
 
 pub loop-a-init : goal.loop-a-init
-loop-a-init g c = sym (front_none 32 _)
+loop-a-init g c = sym (front_none 64 _)
 
 pub loop-a-preserved : goal.loop-a-preserved
 loop-a-preserved g c =
     let x = c.args in
-    c.with_action-open.ensures
-    ∙ set_more 32 c.loop-a.a _ _ _ c.loop-a.invariant
+    c.insert_if-open.ensures
+    ∙ set_more 64 c.loop-a.a _ _ _ c.loop-a.invariant
     (c.diverges_by.ensures
     ∙ opens-found (g.S.System.meaning x.below.now) (g.met.S.System.bounded x.below.now) x.rows.now x.diverging x.p c.loop-a.a)
 
 pub returns : goal.returns
 returns g c =
     let x = c.args in
-    c.loop-a.invariant
+    c.as_actions.ensures ∙ set_of_low 32 64 _ _ (omega arith) c.loop-a.invariant
     ∙ marks_found (g.S.System.meaning x.below.now) (g.met.S.System.bounded x.below.now) x.rows.now x.diverging x.p c.loop-a.a (omega arith) (omega arith)

@@ -1,10 +1,10 @@
 use Rattle.std.proofs.Common.{sym, ap, ◌∙◌, arith}
 use Rattle.systems.specs.Sets.{set_of}
-use Rattle.systems.proofs.Sets.{set_of_none, set_of_lt}
+use Rattle.systems.proofs.Sets.{set_of_none, set_of_lt, set_narrow}
 use Rattle.filing.specs.Accepted.{meaning_at}
 use Rattle.filing.specs.Contents.{mark_in, says_mark}
 use Rattle.filing.proofs.Asking.{filed-fits, filed_meaning, filed_bounded, asks_less, asks_on, asks_all}
-use Rattle.filing.proofs.Says.{set_more, set_narrow}
+use Rattle.filing.proofs.Says.{set_more}
 use Rattle.filing.proofs.Walk.{walk_begins}
 use Rattle.filing.proofs.filed.FiledSystem.open_on.Goals as goal
 
@@ -31,7 +31,7 @@ returns g c =
     let b = filed_bounded read s g.L.Label.plain in
     asks_all read s _ _ _ c.loop-said.invariant c.in_default.ensures
     ∙ sym (ap (λ x. set_of 64 (x.marks c.args.p)) m)
-    ∙ set_narrow _ (λ a e. omega (arith, b.marks_present c.args.p a e, b.few_actions))
+    ∙ set_narrow 32 64 _ (omega arith) (λ a e. omega (arith, b.marks_present c.args.p a e, b.few_actions))
 
 pub overflow_cast-result : goal.overflow_cast-result
 overflow_cast-result g c = omega (arith, returns g c, set_of_lt 32 ((meaning_at g.L.Label.plain g.L.Label.read c.args.self.now.width c.args.self.now.bytes.now c.args.self.now.begin).marks c.args.p))

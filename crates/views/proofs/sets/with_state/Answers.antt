@@ -1,6 +1,0 @@
-use Rattle.std.proofs.Common.{arith}
-use Rattle.views.proofs.Masks.{set_with}
-use Rattle.views.proofs.sets.with_state.Goals as goal
-
-pub returns : goal.returns
-returns c = set_with 64 c.args.set c.args.i c.args.test (omega arith) c.requires
