@@ -1,4 +1,3 @@
-pub mod Bytes
 pub mod Cells
 pub mod Questions
 pub mod Sets

@@ -1,37 +1,46 @@
 -- The laws of sets held as numbers.
 use Rattle.std.specs.Prelude.{◌≡◌, ℕ, zero, suc, ◌+◌, ◌-◌, ◌*◌, ◌/◌, ◌%◌, ◌^◌, ◌<◌, ◌≤◌, Bool, true, false, cond, not, ◌&&◌, ◌||◌, ltb, ◌⊎◌, Decides, ◌==◌, bit_and, bit_or, nat_eq, nat_lt, refl}
-use Rattle.std.proofs.Common.{sym, ap, ap₂, ◌∙◌, inl, inr, mod-lt, arith, pow_pos, pow_mono}
+use Rattle.std.proofs.Common.{sym, ap, ap₂, ◌∙◌, inl, inr, arith, min, max, pow_pos, pow_mono}
 use Rattle.std.proofs.Math.Bool.{or-false}
-use Rattle.std.proofs.Math.Nat.{pow-succ', div-eq_of_lt, div-div-eq-div-mul}
-use Rattle.std.proofs.Math.Dec.{eqb-suc-suc, eqb-zero-suc, eqb-suc-zero}
+use Rattle.std.proofs.Math.Nat.{pow-succ'}
 use Rattle.std.specs.Int.Bits.{and_lt}
 use Rattle.std.proofs.Math.Pow.{pow-lt}
-use Rattle.std.proofs.lemmas.Nat.{and_shr, or_shr, and_comm, and_mod, or_mod, and_le_l, or_lt}
-use Rattle.std.proofs.lemmas.Bool.{eqb-true, eq-eqb, ne_eqb, lt-ltb, le-ltb, ltb-true, true≢false, and_parts, not-true, not_from_false, cases_lt}
+use Rattle.std.proofs.lemmas.Nat.{and_comm, and_le_l, or_lt}
+use Rattle.std.specs.Int.{bit_at}
+use Rattle.std.proofs.lemmas.Nat.Bits.{bit_at_lowest, bit_at-suc, bit_at-lt, bit_at_and, bit_at_or, bit_at-pow_same, bit_at-pow_other, bit_at_ones, bit_at_ones_above, bit_at_above, same_from_bits_below}
+use Rattle.std.proofs.lemmas.Bool.{cases_eq, eqb-true, eq-eqb, ne_eqb, lt-ltb, le-ltb, ltb-true, true≢false, and_parts, not-true, not_from_false, cases_lt}
 use Rattle.std.proofs.lemmas.Bool.Decides.{nat_tests, Decides-below_or, Decides-like, same_from_decides}
 use Rattle.systems.specs.Containment.{every_decides, contained_decides}
 use Rattle.systems.specs.Sets.{has, set_of, every, some_of, count, contained}
 
 -- ---- one bit
 
-pub bit_cases : (n : ℕ) → (n % 2 ≡ 0) ⊎ (n % 2 ≡ 1)
-bit_cases n = go (n % 2) (mod-lt n {m = 2} (omega arith))
-  where
-    go : (b : ℕ) → b < 2 → (b ≡ 0) ⊎ (b ≡ 1)
-    go zero h = inl refl
-    go (suc zero) h = inr refl
-    go (suc (suc b)) h = absurd (omega arith)
+two_bits : (b : ℕ) → b < 2 → (b ≡ 0) ⊎ (b ≡ 1)
+two_bits zero h = inl refl
+two_bits (suc zero) h = inr refl
+two_bits (suc (suc b)) h = absurd (omega arith)
 
-pub has_zero : (m : ℕ) → has m 0 ≡ (m % 2 == 1)
-unfolding has
-has_zero m = ap (λ (x : ℕ). nat_eq (x % 2) 1) (div_one m)
-  where
-    div_one : (n : ℕ) → n / 1 ≡ n
-    div_one n = omega arith
+-- the bit of number i in a set
+bit_of : (m i : ℕ) → (bit_at m i ≡ 0) ⊎ (bit_at m i ≡ 1)
+bit_of m i = two_bits (bit_at m i) (bit_at-lt m i)
 
-pub has_suc : (m i : ℕ) → has m (suc i) ≡ has (m / 2) i
+-- what is said of two bits holds if it holds of each pair
+by_bits : (P : ℕ → ℕ → Type 0) → P 0 0 → P 0 1 → P 1 0 → P 1 1 → (a b i : ℕ) → P (bit_at a i) (bit_at b i)
+by_bits P p00 p01 p10 p11 a b i = go (bit_at a i) (bit_at b i) (bit_of a i) (bit_of b i)
+  where
+    go : (x y : ℕ) → (x ≡ 0) ⊎ (x ≡ 1) → (y ≡ 0) ⊎ (y ≡ 1) → P x y
+    go x y (inl e) (inl d) = rw (e, d) p00
+    go x y (inl e) (inr d) = rw (e, d) p01
+    go x y (inr e) (inl d) = rw (e, d) p10
+    go x y (inr e) (inr d) = rw (e, d) p11
+
+has_zero : (m : ℕ) → has m 0 ≡ (m % 2 == 1)
 unfolding has
-has_suc m i = ap (λ (x : ℕ). nat_eq (x % 2) 1) (ap (λ (x : ℕ). m / x) (pow-succ' 2 i) ∙ sym (div-div-eq-div-mul m 2 (2 ^ i)))
+has_zero m = ap (λ (x : ℕ). nat_eq x 1) (bit_at_lowest m)
+
+has_suc : (m i : ℕ) → has m (suc i) ≡ has (m / 2) i
+unfolding has
+has_suc m i = ap (λ (x : ℕ). nat_eq x 1) (bit_at-suc m i)
 
 -- ---- the set of a test
 
@@ -65,19 +74,10 @@ has-set_of (suc w) f (suc i) h =
 
 -- two sets of numbers below w with the same members are the same number
 pub has_ext : (w a b : ℕ) → a < 2 ^ w → b < 2 ^ w → ((i : ℕ) → i < w → has a i ≡ has b i) → a ≡ b
-has_ext zero a b p q e = omega arith
-has_ext (suc w) a b p q e =
-    let p' : a < 2 * 2 ^ w = rw (pow-succ' 2 w) at p in
-    let q' : b < 2 * 2 ^ w = rw (pow-succ' 2 w) at q in
-    let high : a / 2 ≡ b / 2 = has_ext w (a / 2) (b / 2) (omega arith) (omega arith) (λ i h. sym (has_suc a i) ∙ e (suc i) (omega arith) ∙ has_suc b i) in
-    let low : a % 2 ≡ b % 2 = same_bit (bit_cases a) (bit_cases b) (sym (has_zero a) ∙ e 0 (omega arith) ∙ has_zero b) in
-    omega arith
-  where
-    same_bit : (a % 2 ≡ 0) ⊎ (a % 2 ≡ 1) → (b % 2 ≡ 0) ⊎ (b % 2 ≡ 1) → (a % 2 == 1) ≡ (b % 2 == 1) → a % 2 ≡ b % 2
-    same_bit (inl x) (inl y) t = x ∙ sym y
-    same_bit (inl x) (inr y) t = absurd (true≢false (sym (sym (ap (λ (z : ℕ). nat_eq z 1) x) ∙ t ∙ ap (λ (z : ℕ). nat_eq z 1) y)))
-    same_bit (inr x) (inl y) t = absurd (true≢false (sym (ap (λ (z : ℕ). nat_eq z 1) x) ∙ t ∙ ap (λ (z : ℕ). nat_eq z 1) y))
-    same_bit (inr x) (inr y) t = x ∙ sym y
+unfolding has
+has_ext w a b p q e =
+    same_from_bits_below w a b p q (λ i h.
+    by_bits (λ x y. (x == 1) ≡ (y == 1) → x ≡ y) (λ t. refl) (λ t. absurd (true≢false (sym t))) (λ t. absurd (true≢false t)) (λ t. refl) a b i (e i h))
 
 -- a number is the set of its own members
 pub set_of-has : (w a : ℕ) → a < 2 ^ w → set_of w (has a) ≡ a
@@ -90,10 +90,7 @@ set_of_cong w f g e =
 -- a set of numbers below w has none from w on
 pub has_beyond : (w a i : ℕ) → a < 2 ^ w → w ≤ i → has a i ≡ false
 unfolding has
-has_beyond w a i h le = ap (λ (x : ℕ). nat_eq (x % 2) 1) (div-eq_of_lt {n = a} {m = 2 ^ i} (beyond (pow_mono le)))
-  where
-    beyond : 2 ^ w ≤ 2 ^ i → a < 2 ^ i
-    beyond m = omega arith
+has_beyond w a i h le = ap (λ (x : ℕ). nat_eq x 1) (bit_at_above a w i h le)
 
 -- the same at every number, where only numbers below w pass
 pub has_set_of_any : (w : ℕ) (f : ℕ → Bool) → ((i : ℕ) → f i ≡ true → i < w) → (i : ℕ) → has (set_of w f) i ≡ f i
@@ -109,45 +106,24 @@ has_set_of_any w f k i = go (cases_lt i w) (f i) refl
 pub has_and : (a b i : ℕ) → has (bit_and a b) i ≡ (has a i && has b i)
 unfolding has
 has_and a b i =
-    ap (λ (x : ℕ). nat_eq (x % 2) 1) (and_shr a b i)
-    ∙ ap (λ (x : ℕ). nat_eq x 1) (and_mod (a / 2 ^ i) (b / 2 ^ i) 1)
-    ∙ both (a / 2 ^ i % 2) (b / 2 ^ i % 2) (bit_cases (a / 2 ^ i)) (bit_cases (b / 2 ^ i))
-  where
-    both : (x y : ℕ) → (x ≡ 0) ⊎ (x ≡ 1) → (y ≡ 0) ⊎ (y ≡ 1) → (bit_and x y == 1) ≡ (x == 1 && y == 1)
-    both x y (inl e) (inl d) = ap₂ (λ (s t : ℕ). nat_eq (bit_and s t) 1) e d ∙ sym (ap₂ (λ (s t : ℕ). ◌&&◌ (s == 1) (t == 1)) e d)
-    both x y (inl e) (inr d) = ap₂ (λ (s t : ℕ). nat_eq (bit_and s t) 1) e d ∙ sym (ap₂ (λ (s t : ℕ). ◌&&◌ (s == 1) (t == 1)) e d)
-    both x y (inr e) (inl d) = ap₂ (λ (s t : ℕ). nat_eq (bit_and s t) 1) e d ∙ sym (ap₂ (λ (s t : ℕ). ◌&&◌ (s == 1) (t == 1)) e d)
-    both x y (inr e) (inr d) = ap₂ (λ (s t : ℕ). nat_eq (bit_and s t) 1) e d ∙ sym (ap₂ (λ (s t : ℕ). ◌&&◌ (s == 1) (t == 1)) e d)
+    ap (λ (x : ℕ). nat_eq x 1) (bit_at_and a b i) ∙ by_bits (λ x y. (min x y == 1) ≡ (x == 1 && y == 1)) refl refl refl refl a b i
 
 pub has_or : (a b i : ℕ) → has (bit_or a b) i ≡ (has a i || has b i)
 unfolding has
 has_or a b i =
-    ap (λ (x : ℕ). nat_eq (x % 2) 1) (or_shr a b i)
-    ∙ ap (λ (x : ℕ). nat_eq x 1) (or_mod (a / 2 ^ i) (b / 2 ^ i) 1)
-    ∙ either (a / 2 ^ i % 2) (b / 2 ^ i % 2) (bit_cases (a / 2 ^ i)) (bit_cases (b / 2 ^ i))
-  where
-    either : (x y : ℕ) → (x ≡ 0) ⊎ (x ≡ 1) → (y ≡ 0) ⊎ (y ≡ 1) → (bit_or x y == 1) ≡ (x == 1 || y == 1)
-    either x y (inl e) (inl d) = ap₂ (λ (s t : ℕ). nat_eq (bit_or s t) 1) e d ∙ sym (ap₂ (λ (s t : ℕ). ◌||◌ (s == 1) (t == 1)) e d)
-    either x y (inl e) (inr d) = ap₂ (λ (s t : ℕ). nat_eq (bit_or s t) 1) e d ∙ sym (ap₂ (λ (s t : ℕ). ◌||◌ (s == 1) (t == 1)) e d)
-    either x y (inr e) (inl d) = ap₂ (λ (s t : ℕ). nat_eq (bit_or s t) 1) e d ∙ sym (ap₂ (λ (s t : ℕ). ◌||◌ (s == 1) (t == 1)) e d)
-    either x y (inr e) (inr d) = ap₂ (λ (s t : ℕ). nat_eq (bit_or s t) 1) e d ∙ sym (ap₂ (λ (s t : ℕ). ◌||◌ (s == 1) (t == 1)) e d)
+    ap (λ (x : ℕ). nat_eq x 1) (bit_at_or a b i) ∙ by_bits (λ x y. (max x y == 1) ≡ (x == 1 || y == 1)) refl refl refl refl a b i
 
 -- the empty set and the set of one number
 pub has_none : (i : ℕ) → has 0 i ≡ false
 has_none i = has_beyond 0 0 i (omega arith) (omega arith)
 
-pub has_single : (j i : ℕ) → has (2 ^ j) i ≡ (i == j)
-has_single zero zero = has_zero 1
-has_single zero (suc i) = has_suc 1 i ∙ has_none i ∙ sym (eqb-suc-zero i)
-has_single (suc j) zero = has_zero (2 ^ suc j) ∙ even ∙ sym (eqb-zero-suc j)
+has_single : (j i : ℕ) → has (2 ^ j) i ≡ (i == j)
+unfolding has
+has_single j i = go (cases_eq i j)
   where
-    even : nat_eq (2 ^ suc j % 2) 1 ≡ false
-    even = rw (pow-succ' 2 j) (ne_eqb _ _ (omega arith))
-has_single (suc j) (suc i) =
-    has_suc (2 ^ suc j) i ∙ ap (λ (x : ℕ). has x i) half ∙ has_single j i ∙ sym (eqb-suc-suc i j)
-  where
-    half : 2 ^ suc j / 2 ≡ 2 ^ j
-    half = rw (pow-succ' 2 j) (omega arith)
+    go : (i ≡ j) ⊎ (i ≡ j → ⊥) → (bit_at (2 ^ j) i == 1) ≡ (i == j)
+    go (inl e) = eq-eqb _ _ (ap (bit_at (2 ^ j)) e ∙ bit_at-pow_same j) ∙ sym (eq-eqb i j e)
+    go (inr ne) = ap (λ (x : ℕ). nat_eq x 1) (bit_at-pow_other j i ne) ∙ sym (ne_eqb i j ne)
 
 -- one number more
 pub set_of_or : (w : ℕ) (f g : ℕ → Bool) → bit_or (set_of w f) (set_of w g) ≡ set_of w (λ i. f i || g i)
@@ -188,46 +164,21 @@ and_contained w a b la lb =
     keeps true y k = k refl
     keeps false y k = refl
 
--- ---- the numbers below n, and the numbers that a set lacks
+-- ---- the numbers below n
 
-pub has_below : (n i : ℕ) → has (2 ^ n - 1) i ≡ nat_lt i n
-has_below zero i = has_none i ∙ sym (le-ltb i 0 (omega arith))
-has_below (suc n) zero = has_zero _ ∙ eq-eqb _ _ odd ∙ sym (lt-ltb 0 (suc n) (omega arith))
+has_below : (n i : ℕ) → has (2 ^ n - 1) i ≡ nat_lt i n
+unfolding has
+has_below n i = go (cases_lt i n)
   where
-    odd : (2 ^ suc n - 1) % 2 ≡ 1
-    odd = let pos = pow_pos n in rw (pow-succ' 2 n) (omega arith)
-has_below (suc n) (suc i) = has_suc _ i ∙ ap (λ (x : ℕ). has x i) half ∙ has_below n i ∙ step
-  where
-    half : (2 ^ suc n - 1) / 2 ≡ 2 ^ n - 1
-    half = let pos = pow_pos n in rw (pow-succ' 2 n) (omega arith)
-
-    step : ltb i n ≡ nat_lt (suc i) (suc n)
-    step = grind (arith, nat_tests)
+    go : (i < n) ⊎ (n ≤ i) → (bit_at (2 ^ n - 1) i == 1) ≡ nat_lt i n
+    go (inl h) = eq-eqb _ _ (bit_at_ones n i h) ∙ sym (lt-ltb i n h)
+    go (inr h) = ap (λ (x : ℕ). nat_eq x 1) (bit_at_ones_above n i h) ∙ sym (le-ltb i n h)
 
 pub set_of_below : (w n : ℕ) → n ≤ w → set_of w (λ i. ltb i n) ≡ 2 ^ n - 1
 set_of_below w n h = has_ext w _ _ (set_of_lt w _) fits (λ i l. has-set_of w (λ j. ltb j n) i l ∙ sym (has_below n i))
   where
     fits : 2 ^ n - 1 < 2 ^ w
     fits = let pos = pow_pos n in let le : 2 ^ n ≤ 2 ^ w = pow_mono h in omega arith
-
-pub has_complement : (w a i : ℕ) → a < 2 ^ w → i < w → has (2 ^ w - 1 - a) i ≡ not (has a i)
-has_complement zero a i h l = absurd (omega arith)
-has_complement (suc w) a zero h l = has_zero _ ∙ go (bit_cases a) ∙ ap not (sym (has_zero a))
-  where
-    h' : a < 2 * 2 ^ w
-    h' = rw (pow-succ' 2 w) at h
-
-    go : (a % 2 ≡ 0) ⊎ (a % 2 ≡ 1) → ((2 ^ suc w - 1 - a) % 2 == 1) ≡ not (a % 2 == 1)
-    go (inl e) = rw (pow-succ' 2 w) (eq-eqb _ _ (omega arith) ∙ ap not (sym (ne_eqb (a % 2) 1 (omega arith))))
-    go (inr e) = rw (pow-succ' 2 w) (ne_eqb _ _ (omega arith) ∙ ap not (sym (eq-eqb (a % 2) 1 e)))
-has_complement (suc w) a (suc i) h l =
-    has_suc _ i ∙ ap (λ (x : ℕ). has x i) half ∙ has_complement w (a / 2) i (omega arith) (omega arith) ∙ ap not (sym (has_suc a i))
-  where
-    h' : a < 2 * 2 ^ w
-    h' = rw (pow-succ' 2 w) at h
-
-    half : (2 ^ suc w - 1 - a) / 2 ≡ 2 ^ w - 1 - a / 2
-    half = rw (pow-succ' 2 w) (omega arith)
 
 -- ---- tests that agree, or that a lower bound settles
 
@@ -254,7 +205,7 @@ every_within n w f h k = same_from_decides _ _ (every_decides w f) (Decides-like
 
 -- ---- empty sets, and sets that meet or are contained
 
-pub empty_set : (w a : ℕ) → a < 2 ^ w → (a == 0) ≡ every w (λ i. not (has a i))
+empty_set : (w a : ℕ) → a < 2 ^ w → (a == 0) ≡ every w (λ i. not (has a i))
 empty_set w a h = same_from_decides _ _ (none_in, none_then) (every_decides w (λ i. not (has a i)))
   where
     none_in : nat_eq a 0 ≡ true → (i : ℕ) → i < w → not (has a i) ≡ true
@@ -276,18 +227,6 @@ pub some_and : (w a b : ℕ) → a < 2 ^ w → some_of w (λ i. has a i && has b
 some_and w a b h =
     some_cong w _ (has (bit_and a b)) (λ i l. sym (has_and a b i)) ∙ sym (not_every w (has (bit_and a b)))
     ∙ ap not (sym (empty_set w (bit_and a b) (omega (arith, and_le_l a b))))
-
-pub contained_and : (w a b : ℕ) → a < 2 ^ w → b < 2 ^ w → contained w a b ≡ (bit_and a (2 ^ w - 1 - b) == 0)
-unfolding contained
-contained_and w a b h k =
-    let c : ℕ = 2 ^ w - 1 - b in
-    every_cong w _ (λ i. not (has (bit_and a c) i)) (λ i l. go (has a i) (has b i) ∙ ap not (ap (◌&&◌ (has a i)) (sym (has_complement w b i k l)) ∙ sym (has_and a c i)))
-    ∙ sym (empty_set w (bit_and a c) (omega (arith, and_le_l a c)))
-  where
-    go : (x y : Bool) → (not x || y) ≡ not (x && not y)
-    go true true = refl
-    go true false = refl
-    go false y = refl
 
 -- ---- a set that is made number by number
 

@@ -1,5 +1,5 @@
 // The two label kinds: ranks and permits.
-ghost use Rattle.std.specs.Prelude.{◌≡◌, ◌*◌, ◌^◌, ◌<◌, ◌≤◌, take, nat_le};
+ghost use Rattle.std.specs.Prelude.{◌≡◌, ℕ, ◌<◌, take, nat_le, slice_index};
 ghost use Rattle.systems.specs.Label.{number_of};
 ghost use Rattle.systems.specs.Sets.{contained};
 ghost use Rattle.std.proofs.Common.{rules};
@@ -7,6 +7,7 @@ ghost use Rattle.systems.specs.Containment.{contained_refl, contained_trans};
 
 use crate::label::Label;
 use crate::masks::is_within;
+use crate::sheet::{cell_or, write_first};
 
 // A rank is a number; below means at most.
 #[derive(Clone, Copy, PartialEq, Eq, Debug)]
@@ -23,11 +24,11 @@ pub struct Permit {
 impl Label for Rank {
     const CODE: u8 = 0;
 
+    ghost CODE = { 0 };
+
     const WIDTH: usize = 2;
 
-    ghost kind = { 0 };
-
-    ghost bytes = { 2 };
+    ghost WIDTH = { 2 };
 
     ghost below = { λ x y. nat_le x.value y.value };
 
@@ -36,14 +37,6 @@ impl Label for Rank {
     ghost read = { λ bs. record { value = number_of (take 2 bs) } };
 
     ghost order = { Prim.search rules };
-
-    fn kind_code() -> u8 {
-        Self::CODE
-    }
-
-    fn byte_width() -> usize {
-        Self::WIDTH
-    }
 
     fn is_below(&self, other: &Self) -> bool {
         self.value <= other.value
@@ -55,7 +48,7 @@ impl Label for Rank {
 
     fn from_bytes(source: &[u8]) -> Self {
         Rank {
-            value: little_endian(source, Self::WIDTH) as u16,
+            value: u16::from_le_bytes(first_bytes(source)),
         }
     }
 }
@@ -63,11 +56,11 @@ impl Label for Rank {
 impl Label for Permit {
     const CODE: u8 = 1;
 
+    ghost CODE = { 1 };
+
     const WIDTH: usize = 8;
 
-    ghost kind = { 1 };
-
-    ghost bytes = { 8 };
+    ghost WIDTH = { 8 };
 
     ghost below = { λ x y. contained 64 x.members y.members };
 
@@ -80,14 +73,6 @@ impl Label for Permit {
       transitive = λ x y z. contained_trans 64 x.members y.members z.members;
     } };
 
-    fn kind_code() -> u8 {
-        Self::CODE
-    }
-
-    fn byte_width() -> usize {
-        Self::WIDTH
-    }
-
     fn is_below(&self, other: &Self) -> bool {
         is_within(self.members, other.members)
     }
@@ -98,21 +83,16 @@ impl Label for Permit {
 
     fn from_bytes(source: &[u8]) -> Self {
         Permit {
-            members: little_endian(source, Self::WIDTH),
+            members: u64::from_le_bytes(first_bytes(source)),
         }
     }
 }
 
-// The number that the first bytes stand for, lowest first. Bytes that are not there count as 0.
-fn little_endian(source: &[u8], width: usize) -> u64
-    requires { width ≤ 8 }
-    ensures value { result ≡ number_of (take width source.now) }
-    ensures bound { result < 2 ^ (8 * width) }
+// the first N bytes; a byte that is not there is 0
+fn first_bytes<const N: usize>(source: &[u8]) -> [u8; N]
+    ensures { (i : ℕ) → i < N → slice_index result i ≡ slice_index source.now i }
 {
-    let count = width.min(source.len());
-    let mut value = 0u64;
-    for i in (0..count).rev() {
-        value = value * 256 + u64::from(source[i]);
-    }
-    value
+    let mut bytes = [0; N];
+    write_first(&mut bytes, N, |i| cell_or(source, i, 0));
+    bytes
 }

@@ -3,15 +3,15 @@ ghost use Rattle.std.specs.Prelude.{◌≡◌, ℕ, Bool, List};
 ghost use Rattle.systems.specs.Label.{Preorder};
 
 pub trait Label: Copy {
-    // the byte that names the kind in a file, and how many bytes a label takes there
+    // the byte that names the kind in a file
     const CODE: u8;
 
+    ghost CODE: { ℕ };
+
+    // how many bytes a label takes in a file
     const WIDTH: usize;
 
-    // the same two numbers for contracts, which cannot name a bound's constants
-    ghost kind: { ℕ };
-
-    ghost bytes: { ℕ };
+    ghost WIDTH: { ℕ };
 
     ghost below: { Self → Self → Bool };
 
@@ -21,12 +21,7 @@ pub trait Label: Copy {
     // the label that bytes stand for, lowest byte first
     ghost read: { List ℕ → Self };
 
-    fn kind_code() -> u8
-        ensures { result ≡ kind };
-
-    fn byte_width() -> usize
-        ensures { result ≡ bytes };
-
+    // no `PartialOrd`, which would ask that two labels below one another are equal
     fn is_below(&self, other: &Self) -> bool
         ensures { result ≡ below self.now other.now };
 

@@ -1,5 +1,5 @@
 // Sets of states and of actions, held as 64-bit numbers: bit i stands for number i.
-ghost use Rattle.std.specs.Prelude.{◌≡◌, ◌&&◌, ◌||◌, ◌==◌, nat_lt};
+ghost use Rattle.std.specs.Prelude.{◌≡◌, ℕ, ◌<◌, Bool, ◌&&◌, ◌||◌, ◌==◌, nat_lt};
 ghost use Rattle.systems.specs.Sets.{has, set_of, some_of, contained};
 
 pub fn contains(set: u64, i: u8) -> bool
@@ -27,6 +27,18 @@ pub fn all_below(n: u8) -> u64
     ensures { result ≡ set_of 64 (λ i. nat_lt i n) }
 {
     if n < 64 { (1 << n) - 1 } else { u64::MAX }
+}
+
+// The set of the numbers below n that pass the test, whichever test T it is that the closure answers. It is asked once of each.
+pub fn set_where<F: Fn(u8) -> bool>(n: u8, test: F) -> u64
+    requires { (i : ℕ) → i < n → F.pre test i }
+    ensures { (T : ℕ → Bool) → ((i : ℕ) (b : Bool) → i < n → F.post test i b → b ≡ T i) → result ≡ set_of 64 (λ i. nat_lt i n && T i) }
+{
+    let mut set = 0;
+    for i in 0..n {
+        set = insert_if(set, i, test(i));
+    }
+    set
 }
 
 // the actions in the set, which are below 32
