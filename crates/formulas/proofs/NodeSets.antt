@@ -1,33 +1,20 @@
--- The sets that the code makes state by state, and the tests that it makes on whole sets.
-use Rattle.std.proofs.Common.{◌≡◌, ℕ, ◌+◌, Bool, true, false, not, ◌&&◌, ◌||◌, eqb, ltb, sym, ap, ◌∙◌, ap₂, arith}
+-- The sets of states that pass a test, and the tests that the code makes on whole sets.
+use Rattle.std.proofs.Common.{◌≡◌, ℕ, Bool, not, ◌&&◌, ◌||◌, ltb, ap, ◌∙◌, ap₂, arith}
 use Rattle.std.proofs.lemmas.Bool.{and_parts}
 use Rattle.systems.specs.Meaning.{Meaning, Bounded}
 use Rattle.systems.specs.Sets.{has, set_of, some_of, contained}
 use Rattle.formulas.specs.NodeSets.{states_where, can_enter, must_enter}
 use Rattle.systems.proofs.Questions.{has_marks, has_reach}
 use Rattle.systems.specs.Containment.{decides_implies}
-use Rattle.systems.proofs.Sets.{some_cong, some_within, every_cong, every_within, front_none, front_more}
+use Rattle.systems.proofs.Sets.{some_cong, some_within, every_cong, every_within}
 
--- the set of the first n states that pass a test
-abbrev pub states_first : ℕ → (ℕ → Bool) → ℕ
-states_first n f = set_of 64 (λ p. ltb p n && f p)
-
-pub first_none : (f : ℕ → Bool) → 0 ≡ states_first 0 f
-first_none f = sym (front_none 64 f)
-
--- the state p passes, or does not
-module _ (f : ℕ → Bool) (p : ℕ) {s t : ℕ} {x : Bool} (so_far : s ≡ states_first p f) (test : x ≡ f p) where
-  pub first_in : {u : ℕ} → x ≡ true → t ≡ u → u ≡ set_of 64 (λ q. has s q || eqb q p) → t ≡ states_first (p + 1) f
-  first_in e d w = d ∙ w ∙ sym (front_more 64 p f true s so_far (sym e ∙ test))
-
-  pub first_out : x ≡ false → t ≡ s → t ≡ states_first (p + 1) f
-  first_out e d = d ∙ sym (front_more 64 p f false s so_far (sym e ∙ test))
+-- the set of the numbers below the number of states that pass a test, as the code asks for it
+module _ {L : Type 0} (m : Meaning L) where
+  pub states_where_is : (f : ℕ → Bool) {n s : ℕ} → n ≡ m.states → s ≡ set_of 64 (λ p. ltb p n && f p) → s ≡ states_where m f
+  unfolding states_where
+  states_where_is f h e = e ∙ ap (λ (k : ℕ). set_of 64 (λ p. ltb p k && f p)) h
 
 module _ {L : Type 0} (m : Meaning L) (b : Bounded m) where
-  pub first-all : (f : ℕ → Bool) {n s : ℕ} → n ≡ m.states → s ≡ states_first n f → s ≡ states_where m f
-  unfolding states_where
-  first-all f h e = e ∙ ap (λ (k : ℕ). states_first k f) h
-
   module _ (p a set : ℕ) {reach : ℕ} (r : reach ≡ set_of 64 (m.moves p a)) where
     member : (t : ℕ) → has reach t ≡ m.moves p a t
     member t = ap (λ (n : ℕ). has n t) r ∙ has_reach m b p a t

@@ -1,9 +1,10 @@
 -- The test of satisfaction decides satisfaction, and a node's set is the set of its formula.
-use Rattle.std.proofs.Common.{◌≡◌, ℕ, ◌<◌, Bool, true, false, not, ◌&&◌, ◌||◌, ltb, leb, List, map, length, get_or, Decides, sym, refl, ap, ◌∙◌, ap₂, arith}
+use Rattle.std.proofs.Common.{◌≡◌, ℕ, ◌<◌, Bool, false, not, ◌&&◌, ◌||◌, ltb, leb, List, map, length, get_or, Decides, sym, refl, ap, ◌∙◌, ap₂, arith}
 use lib.Bits.{bit_and, bit_or}
 use Rattle.std.proofs.lemmas.List.{get_or-map, length-map}
 use Rattle.std.proofs.lemmas.Bool.{false≢true, lt-ltb, ltb-true, leb-false, and_parts, and_from, or_parts, not-true, not_from_false}
-use Rattle.std.proofs.lemmas.Bool.Decides.{Decides-at, Decides-and, Decides-or, Decides-like}
+use Rattle.std.proofs.Math.Bool.{and-true, and-false, and-or_distrib_left}
+use Rattle.std.proofs.lemmas.Bool.Decides.{nat_tests, Decides-at, Decides-and, Decides-or, Decides-like}
 use Rattle.systems.specs.Meaning.{Meaning, Bounded}
 use Rattle.systems.specs.Sets.{has, set_of}
 use Rattle.systems.specs.Containment.{every_decides, decides_implies}
@@ -24,35 +25,19 @@ module _ {L : Type 0} (below : L → L → Bool) (m : Meaning L) where
 
   satisfying_top : set_of 64 (λ p. ltb p m.states) ≡ satisfying below m top
   unfolding satisfying holds
-  satisfying_top = set_of_cong 64 _ _ (λ p h. go (ltb p m.states))
-    where
-      go : (x : Bool) → x ≡ (x && true)
-      go true = refl
-      go false = refl
+  satisfying_top = set_of_cong 64 _ _ (λ p h. sym (and-true (ltb p m.states)))
 
   satisfying_bottom : 0 ≡ satisfying below m bottom
   unfolding satisfying holds
-  satisfying_bottom = sym (set_of_none 64) ∙ set_of_cong 64 _ _ (λ p h. go (ltb p m.states))
-    where
-      go : (x : Bool) → false ≡ (x && false)
-      go true = refl
-      go false = refl
+  satisfying_bottom = sym (set_of_none 64) ∙ set_of_cong 64 _ _ (λ p h. sym (and-false (ltb p m.states)))
 
   satisfying_both : (f g : Formula L) → bit_and (satisfying below m f) (satisfying below m g) ≡ satisfying below m (both f g)
   unfolding satisfying holds
-  satisfying_both f g = set_of_and 64 _ _ ∙ set_of_cong 64 _ _ (λ p h. go (ltb p m.states) (holds below m p f) (holds below m p g))
-    where
-      go : (x y z : Bool) → ((x && y) && (x && z)) ≡ (x && (y && z))
-      go true y z = refl
-      go false y z = refl
+  satisfying_both f g = set_of_and 64 _ _ ∙ set_of_cong 64 _ _ (λ p h. grind (arith, nat_tests))
 
   satisfying_either : (f g : Formula L) → bit_or (satisfying below m f) (satisfying below m g) ≡ satisfying below m (either f g)
   unfolding satisfying holds
-  satisfying_either f g = set_of_or 64 _ _ ∙ set_of_cong 64 _ _ (λ p h. go (ltb p m.states) (holds below m p f) (holds below m p g))
-    where
-      go : (x y z : Bool) → ((x && y) || (x && z)) ≡ (x && (y || z))
-      go true y z = refl
-      go false y z = refl
+  satisfying_either f g = set_of_or 64 _ _ ∙ set_of_cong 64 _ _ (λ p h. sym (and-or_distrib_left (ltb p m.states) _ _))
 
 module _ {L : Type 0} (below : L → L → Bool) (m : Meaning L) (b : Bounded m) where
   pub holds_decides : (f : Formula L) (p : ℕ) → Decides (holds below m p f) (Satisfies below m p f)

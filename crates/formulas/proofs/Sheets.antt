@@ -1,39 +1,40 @@
 -- What holds of faulty nodes and of the formulas that nodes stand for.
-use Rattle.std.proofs.Common.{◌≡◌, ℕ, zero, suc, ◌+◌, ◌<◌, ◌≤◌, Bool, true, false, cond, List, [], ◌∷◌, ◌++◌, length, get_or, drop, Some, None, Option, sym, refl, ap, ◌∙◌, ap₂, add-zero, zero-add, arith}
-use Rattle.std.proofs.lemmas.List.{at_drop_more, at_drop_all, length_push}
+use Rattle.std.proofs.Common.{◌≡◌, ℕ, ◌+◌, ◌<◌, Bool, false, cond, List, [], ◌∷◌, ◌++◌, length, get_or, Some, None, sym, refl, ap, ◌∙◌, ap₂, zero-add, arith}
+use Rattle.std.specs.List.{enumerate_from, position_from, position}
+use Rattle.std.proofs.lemmas.Iterator.Adapters.{position_from-zero}
+use Rattle.std.proofs.lemmas.Bool.Decides.{nat_tests}
+use Rattle.std.proofs.lemmas.List.{length_push}
+use Rattle.std.proofs.lemmas.List.FromFn.{length-enumerate_from, get_or-enumerate_from}
+use Rattle.std.proofs.lemmas.List.Sums.{fails_before_first}
 use Rattle.formulas.specs.Formula.{Formula}
 use Rattle.formulas.specs.Sheet.{formula, standing_from, standing, faulty, first_fault_from, first_fault}
 use Rattle.formulas.specs.declared.node.Node.{Node}
 
 -- ---- faulty nodes
 
-cond_none : (b : Bool) (x : ℕ) (o : Option ℕ) → cond b (Some x) o ≡ None → (b ≡ false) × (o ≡ None)
-cond_none true x o e = let z : ◌≡◌ {A = ℕ} 0 1 = cc in absurd (omega arith)
-cond_none false x o e = (refl, e)
-
 module _ {L : Type 0} (actions : ℕ) where
-  -- one node more, by what the test says of it
-  pub fault_more : (ns : List (Node L)) (i : ℕ) (n : Node L) {b : Bool} → i < length ns → n ≡ get_or ns i n → b ≡ faulty actions i n → first_fault_from actions i (drop i ns) ≡ cond b (Some i) (first_fault_from actions (i + 1) (drop (i + 1) ns))
-  unfolding first_fault_from
-  fault_more ns i n h e f =
-      at_drop_more (first_fault_from actions i) ns i n h
-      ∙ ap (λ (x : Bool). cond x (Some i) (first_fault_from actions (i + 1) (drop (i + 1) ns))) (ap (faulty actions i) (sym e) ∙ sym f)
+  -- whether a node is faulty as the number that it stands with
+  abbrev pub is_faulty_at : ℕ × Node L → Bool
+  is_faulty_at x = faulty actions x.0 x.1
 
-  pub fault_all : (ns : List (Node L)) (i : ℕ) → length ns ≤ i → first_fault_from actions i (drop i ns) ≡ None
+  first_fault_from_is : (k : ℕ) (ns : List (Node L)) → position_from is_faulty_at k (enumerate_from k ns) ≡ first_fault_from actions k ns
   unfolding first_fault_from
-  fault_all ns i h = at_drop_all (first_fault_from actions i) ns i h
+  first_fault_from_is k [] = refl
+  first_fault_from_is k (n ∷ ns) = ap (cond (faulty actions k n) (Some k)) (first_fault_from_is (k + 1) ns)
 
-  faultless_from : (ns : List (Node L)) (k : ℕ) → first_fault_from actions k ns ≡ None → (i : ℕ) (d : Node L) → i < length ns → faulty actions (k + i) (get_or ns i d) ≡ false
-  unfolding first_fault_from
-  faultless_from [] k e i d h = absurd (omega arith)
-  faultless_from (n ∷ ns) k e zero d h = ap (λ (j : ℕ). faulty actions j n) (add-zero k) ∙ (cond_none _ _ _ e).0
-  faultless_from (n ∷ ns) k e (suc i) d h =
-      ap (λ (j : ℕ). faulty actions j (get_or ns i d)) (omega arith) ∙ faultless_from ns (k + 1) (cond_none (faulty actions k n) k _ e).1 i d (omega arith)
+  -- the lowest fault is found by position
+  pub first_fault_is : (ns : List (Node L)) → position is_faulty_at (enumerate_from 0 ns) ≡ first_fault actions ns
+  unfolding first_fault
+  first_fault_is ns = position_from-zero is_faulty_at (enumerate_from 0 ns) ∙ first_fault_from_is 0 ns
 
   -- where there is no lowest fault, no node is faulty
   pub faultless : (ns : List (Node L)) → first_fault actions ns ≡ None → (i : ℕ) (n : Node L) → i < length ns → n ≡ get_or ns i n → faulty actions i n ≡ false
-  unfolding first_fault
-  faultless ns e i n h r = ap₂ (faulty actions) (sym (zero-add i)) r ∙ faultless_from ns 0 e i n h
+  faultless ns e i n h r =
+      let all : List (ℕ × Node L) = enumerate_from 0 ns in
+      let none : position is_faulty_at all ≡ None = first_fault_is ns ∙ e in
+      let here : get_or all i (i, n) ≡ (i, n) = get_or-enumerate_from 0 ns i (i, n) h ∙ ap₂ (λ (j : ℕ) (x : Node L). (j, x)) (zero-add i) (sym r) in
+      ap is_faulty_at (sym here)
+      ∙ fails_before_first is_faulty_at all i (i, n) (grind (arith, nat_tests, none, length-enumerate_from 0 ns))
 
 -- ---- the formulas that nodes stand for
 

@@ -1,17 +1,18 @@
 // Judging: which states of a system satisfy the formula that each node of a sheet stands for.
-ghost use Rattle.std.specs.Prelude.{◌≡◌, ◌<◌, ◌≤◌, false, length, take, set, None, Ok};
+ghost use Rattle.std.specs.Prelude.{◌≡◌, ◌≤◌, false, length, None, Ok};
 ghost use Rattle.systems.specs.Sets.{has, set_of};
 ghost use Rattle.formulas.specs.Sheet.{faulty, first_fault};
-ghost use Rattle.formulas.specs.NodeSets.{states_where, can_enter, must_enter, node_set};
+ghost use Rattle.formulas.specs.NodeSets.{can_enter, must_enter, node_set};
 ghost use Rattle.formulas.specs.Judging.{judged, judging_answer, sheet_after, Judges};
 
 use crate::node::Node;
 use crate::refusal::Refusal;
 use systems::label::Label;
-use systems::masks::{all_below, contains, insert, is_within, meets};
+use systems::masks::{all_below, contains, is_within, meets, set_where};
 use systems::system::System;
 
-// whether a node is faulty as the given number of a sheet
+// Whether a node is faulty as the given number of a sheet. Children are cast: no From leads from u32 to usize, and
+// try_from answers a Result that cannot fail here.
 fn is_faulty<L: Label>(node: &Node<L>, number: usize, actions: u8) -> bool
     ensures { result ≡ faulty actions number node.now }
 {
@@ -30,12 +31,10 @@ fn is_faulty<L: Label>(node: &Node<L>, number: usize, actions: u8) -> bool
 fn lowest_fault<L: Label>(nodes: &[Node<L>], actions: u8) -> Option<usize>
     ensures { result ≡ first_fault actions nodes.now }
 {
-    for (i, node) in nodes.iter().enumerate() {
-        if is_faulty(node, i, actions) {
-            return Some(i);
-        }
-    }
-    None
+    nodes
+        .iter()
+        .enumerate()
+        .position(|(i, node)| is_faulty(node, i, actions))
 }
 
 fn is_labelled<L: Label, S: System<L>>(system: &S, p: u8, label: &L) -> bool
@@ -44,22 +43,10 @@ fn is_labelled<L: Label, S: System<L>>(system: &S, p: u8, label: &L) -> bool
     label.is_below(&system.label(p))
 }
 
-fn labelled_states<L: Label, S: System<L>>(system: &S, label: &L) -> u64
-    ensures { result ≡ states_where (S.System.meaning system.now) (λ p. L.Label.below label.now ((S.System.meaning system.now).label p)) }
-{
-    let mut found = 0;
-    for p in 0..system.states() {
-        if is_labelled(system, p, label) {
-            found = insert(found, p);
-        }
-    }
-    found
-}
-
 fn is_open<L: Label, S: System<L>>(system: &S, p: u8, action: u8) -> bool
     ensures { result ≡ has (set_of 32 ((S.System.meaning system.now).marks p)) action }
 {
-    contains(system.open_on(p) as u64, action)
+    contains(u64::from(system.open_on(p)), action)
 }
 
 fn can_enter<L: Label, S: System<L>>(system: &S, p: u8, action: u8, set: u64) -> bool
@@ -74,30 +61,6 @@ fn must_enter<L: Label, S: System<L>>(system: &S, p: u8, action: u8, set: u64) -
     !is_open(system, p, action) && is_within(system.reach(p, action), set)
 }
 
-fn diamond_states<L: Label, S: System<L>>(system: &S, action: u8, set: u64) -> u64
-    ensures { result ≡ states_where (S.System.meaning system.now) (can_enter (S.System.meaning system.now) action set) }
-{
-    let mut found = 0;
-    for p in 0..system.states() {
-        if can_enter(system, p, action, set) {
-            found = insert(found, p);
-        }
-    }
-    found
-}
-
-fn box_states<L: Label, S: System<L>>(system: &S, action: u8, set: u64) -> u64
-    ensures { result ≡ states_where (S.System.meaning system.now) (must_enter (S.System.meaning system.now) action set) }
-{
-    let mut found = 0;
-    for p in 0..system.states() {
-        if must_enter(system, p, action, set) {
-            found = insert(found, p);
-        }
-    }
-    found
-}
-
 // a node's set, from the sets of the nodes before it
 fn node_states<L: Label, S: System<L>>(system: &S, node: &Node<L>, sets: &[u64]) -> u64
     requires { faulty (S.System.meaning system.now).actions (length sets.now) node.now ≡ false }
@@ -106,20 +69,18 @@ fn node_states<L: Label, S: System<L>>(system: &S, node: &Node<L>, sets: &[u64])
     match *node {
         Node::True => all_below(system.states()),
         Node::False => 0,
-        Node::Label(label) => labelled_states(system, &label),
+        Node::Label(label) => set_where(system.states(), |p| is_labelled(system, p, &label)),
         Node::And(left, right) => sets[left as usize] & sets[right as usize],
         Node::Or(left, right) => sets[left as usize] | sets[right as usize],
-        Node::Diamond(action, child) => diamond_states(system, action, sets[child as usize]),
-        Node::Box(action, child) => box_states(system, action, sets[child as usize]),
+        Node::Diamond(action, child) => {
+            let set = sets[child as usize];
+            set_where(system.states(), |p| can_enter(system, p, action, set))
+        }
+        Node::Box(action, child) => {
+            let set = sets[child as usize];
+            set_where(system.states(), |p| must_enter(system, p, action, set))
+        }
     }
-}
-
-// writes the set of node i into its cell; the cells before it have the sets of the nodes before it
-fn write_set<L: Label, S: System<L>>(system: &S, node: &Node<L>, i: usize, answers: &mut [u64])
-    requires { (faulty (S.System.meaning system.now).actions i node.now ≡ false) × (i < length answers.old) }
-    ensures { answers.new ≡ set answers.old i (node_set L.Label.below (S.System.meaning system.now) (take i answers.old) node.now) }
-{
-    answers[i] = node_states(system, node, &answers[0..i]);
 }
 
 fn write_sets<L: Label, S: System<L>>(system: &S, nodes: &[Node<L>], answers: &mut [u64])
@@ -127,7 +88,7 @@ fn write_sets<L: Label, S: System<L>>(system: &S, nodes: &[Node<L>], answers: &m
     ensures { answers.new ≡ judged L.Label.below (S.System.meaning system.now) nodes.now answers.old }
 {
     for (i, node) in nodes.iter().enumerate() {
-        write_set(system, node, i, answers);
+        answers[i] = node_states(system, node, &answers[..i]);
     }
 }
 

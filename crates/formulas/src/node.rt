@@ -1,7 +1,8 @@
 // The nodes of a formula sheet.
 
-// A sheet is a slice of nodes numbered from 0. A child is the number of a node before its parent.
-#[derive(Clone, Copy)]
+// A sheet is a slice of nodes numbered from 0. A child is the number of a node before its parent, and no box: sheets are lent, and nothing
+// here takes memory.
+#[derive(Clone, Copy, PartialEq, Eq, Debug)]
 pub enum Node<L> {
     True,
     False,
