@@ -2,6 +2,8 @@
 use Rattle.std.proofs.Common.{◌≡◌, ℕ, ◌+◌, ◌-◌, ◌<◌, ◌≤◌, Bool, true, false, cond, ◌||◌, ltb, List, [], length, get_or, Some, None, Ok, Err, Option, Result, sym, refl, ap, ◌∙◌, subst, arith}
 use Rattle.std.proofs.lemmas.Bool.{ltb-true}
 use Rattle.std.proofs.lemmas.Bool.Decides.{nat_tests}
+use Rattle.std.proofs.lemmas.Result.{err_from_is_err_and}
+use Rattle.std.specs.Result.{MatchResult, IsErrAnd}
 use Rattle.systems.specs.Sets.{has, set_of}
 use Rattle.systems.proofs.Sets.{has-set_of}
 use Rattle.filing.specs.declared.fault.Cause.{Cause}
@@ -21,6 +23,12 @@ use Rattle.filing.specs.Standing.{HeaderFits, header_fits}
 use Rattle.filing.proofs.Walk.{Underway, entry_within, walk_ends, walk_fails, walk_objects, walk_goes_on}
 
 -- ---- the steps' answers, read back
+
+-- a closure that gives each cause its byte
+pub faulted : {T : Type 0} (byte : ℕ) (x : Result T Cause) (r : Result T Fault) (Gives : Cause → Fault → Type 0) →
+    ((c : Cause) (f : Fault) → Gives c f → f ≡ record { cause = c; byte = byte }) → MatchResult x (λ t. r ≡ Ok t) (λ c. IsErrAnd r (Gives c)) → r ≡ fault_at byte x
+faulted byte (Ok t) r Gives gives is = is
+faulted byte (Err c) r Gives gives is = let p = err_from_is_err_and r is in p.1 ∙ ap Err (gives c p.0 p.2)
 
 pub passed : {T : Type 0} (byte : ℕ) (x : Result T Cause) (t : T) → fault_at byte x ≡ Ok t → x ≡ Ok t
 passed byte (Ok u) t is = let same : u ≡ t = cc in ap Ok same
@@ -139,9 +147,9 @@ module _ {L : Type 0} (plain : L) (kind width : ℕ) (read : List ℕ → L) (by
       has-shape =
           header_blank width read bytes (get_or bytes (begin + 5) 0) begin h ∙ ap (has_header h) (of_kind ∙ accepts.1) ∙ grind (arith, nat_tests)
 
-      pub files : {ghosts : Ghosts L} (before after : Filed L ghosts) → after.bytes.now ≡ bytes → after.begin ≡ begin → after.width ≡ width →
+      pub files : {ghosts : Ghosts L} → ghosts.WIDTH ≡ width → (before after : Filed L ghosts) → after.bytes.now ≡ bytes → after.begin ≡ begin →
           (Ok end ≡ end_of all) × Leaves plain read bytes begin all before after
-      files before after bytes_are begin_is width_is =
+      files {ghosts} width_is before after bytes_are begin_is =
           let P : Result (Contents L) Fault → Type 0 = λ x. (Ok end ≡ end_of x) × Leaves plain read bytes begin x before after in
-          let same : contents_of after.width read after.bytes.now after.begin ≡ contents_of width read bytes begin = cc in
+          let same : contents_of ghosts.WIDTH read after.bytes.now after.begin ≡ contents_of width read bytes begin = cc in
           subst P (sym accepts.1) (refl, record { bytes_are = bytes_are; begin_is = begin_is; meaning_is = ap (meaning_in plain) (same ∙ of_kind ∙ accepts.1) })

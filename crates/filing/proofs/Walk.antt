@@ -1,12 +1,15 @@
 -- Going through the records from a place on: what is known at each record, and at the end.
-use Rattle.std.proofs.Common.{◌≡◌, ℕ, zero, suc, ◌+◌, ◌<◌, ◌≤◌, Bool, true, false, cond, ltb, leb, List, [], ◌∷◌, length, Some, None, Ok, Err, Option, sym, refl, ap, ◌∙◌, subst, arith}
-use Rattle.std.proofs.lemmas.Bool.{le-leb, ltb-false}
+use Rattle.std.proofs.Common.{◌≡◌, ℕ, zero, suc, ◌+◌, ◌<◌, ◌≤◌, Bool, true, false, cond, ltb, leb, List, [], ◌∷◌, length, Some, None, Ok, Err, Result, sym, refl, ap, ◌∙◌, subst, arith, take, drop, ◌-◌}
+use Rattle.std.proofs.lemmas.List.{take_rest, drop-drop}
+use Rattle.std.proofs.lemmas.Bool.{le-leb, le-ltb, ltb-false}
+use Rattle.std.specs.Result.{result_unwrap_or}
 use Rattle.filing.specs.declared.fault.Cause.{Cause}
 use Rattle.filing.specs.declared.header.Header.{Header}
 use Rattle.filing.specs.declared.record.Mark.{Mark}
 use Rattle.filing.specs.declared.record.Record.{Record}
+use Rattle.filing.specs.Reading.{then_after, first_records, records_after}
 use Rattle.filing.specs.Contents.{Outcome, accept, proceed, records_from, labelled_in, objection}
-use Rattle.filing.specs.Format.{Entry, whole, mark, entry_of, entry_at}
+use Rattle.filing.specs.Format.{Entry, whole, mark, entry_of, entry_if, entry_at}
 
 module _ {L : Type 0} (width : ℕ) (read : List ℕ → L) (bytes : List ℕ) where
   -- a record ends after it begins, and within the bytes
@@ -23,22 +26,50 @@ module _ {L : Type 0} (width : ℕ) (read : List ℕ → L) (bytes : List ℕ) w
       go true e = tt
       go false e = (omega arith, ltb-false (length bytes) (at + size) e)
 
+  pub whole_fits : (at size : ℕ) (r : Record L) → at + size ≤ length bytes → Ok (Some (r, at + size)) ≡ whole bytes at size r
+  whole_fits at size r fits = ap (λ b. cond b (Err Cause.CutShort) (Ok (Some (r, at + size)))) (sym (le-ltb (length bytes) (at + size) fits))
+
+  -- a label's bytes, of those that are left
+  pub label_bytes : (at few : ℕ) → few ≡ width → (rest : List ℕ) → rest ≡ drop at bytes → take few (take (length rest - 3) (drop 3 rest)) ≡ take width (drop (at + 3) bytes)
+  label_bytes at few same rest is = rw (take_rest rest 3, same, is, drop-drop 3 at bytes)
+
   mark_within : (at : ℕ) (m : Mark) → Within at (entry_of width read bytes at m)
   unfolding Within
   mark_within at Mark.System = tt
   mark_within at Mark.Move = whole_within at 5 _ (omega arith)
   mark_within at Mark.Open = whole_within at 4 _ (omega arith)
   mark_within at Mark.Label = whole_within at (3 + width) _ (omega arith)
-  mark_within at Mark.Unknown = tt
-  mark_within at Mark.Cut = tt
+
+  entry_if-within : (at : ℕ) (m : Result Mark Cause) → Within at (entry_if width read bytes at m)
+  unfolding Within
+  entry_if-within at (Ok m) = mark_within at m
+  entry_if-within at (Err c) = tt
 
   pub entry_within : (at : ℕ) (e : Record L × ℕ) → entry_at width read bytes at ≡ Ok (Some e) → (at < e.1) × (e.1 ≤ length bytes)
   unfolding entry_at Within
   entry_within at e is = subst (Within at) is (go (leb (length bytes) at))
     where
-      go : (b : Bool) → Within at (cond b (Ok None) (entry_of width read bytes at (mark bytes at)))
+      go : (b : Bool) → Within at (cond b (Ok None) (entry_if width read bytes at (mark bytes at)))
       go true = tt
-      go false = mark_within at (mark bytes at)
+      go false = entry_if-within at (mark bytes at)
+
+  -- the records from a place on, by the entry at hand
+  first_turn : (n at : ℕ) → length bytes ≤ n + at → first_records width read n bytes at ≡ then_after (first_records width read n bytes) (result_unwrap_or (entry_at width read bytes at) None)
+  unfolding first_records entry_at
+  first_turn zero at enough =
+      let next = λ (b : Bool). result_unwrap_or (cond b (Ok None) (entry_if width read bytes at (mark bytes at))) None in
+      ap (λ b. then_after (first_records width read zero bytes) (next b)) (sym (le-leb (length bytes) at (omega arith)))
+  first_turn (suc n) at enough = go (first_turn n) (entry_at width read bytes at) refl
+    where
+      go : ((k : ℕ) → length bytes ≤ n + k → first_records width read n bytes k ≡ first_records width read (suc n) bytes k) → (x : Entry L) → entry_at width read bytes at ≡ x →
+          then_after (first_records width read n bytes) (result_unwrap_or x None) ≡ then_after (first_records width read (suc n) bytes) (result_unwrap_or x None)
+      go below (Err c) is = refl
+      go below (Ok None) is = refl
+      go below (Ok (Some e)) is = ap (λ rs. e.0 ∷ rs) (below e.1 (omega (arith, entry_within at e is)))
+
+  pub records_turn : (at : ℕ) → records_after width read bytes at ≡ then_after (records_after width read bytes) (result_unwrap_or (entry_at width read bytes at) None)
+  unfolding records_after
+  records_turn at = first_turn (length bytes) at (omega arith)
 
 module _ {L : Type 0} (width : ℕ) (read : List ℕ → L) (bytes : List ℕ) (h : Header) where
   -- A walk with this outcome stands at a place, and has gathered a value from the records that it has passed.
@@ -69,7 +100,7 @@ module _ {L : Type 0} (width : ℕ) (read : List ℕ → L) (bytes : List ℕ) (
   turn zero earlier at enough =
       let go : List (Record L) → ℕ → Outcome L = records_from zero width read bytes h in
       let end : leb (length bytes) at ≡ true = le-leb (length bytes) at (omega arith) in
-      (go, ap (λ b. proceed go h earlier at (cond b (Ok None) (entry_of width read bytes at (mark bytes at)))) end)
+      (go, ap (λ b. proceed go h earlier at (cond b (Ok None) (entry_if width read bytes at (mark bytes at)))) end)
   turn (suc n) earlier at enough = (records_from n width read bytes h, refl)
 
   module _ {A : Type 0} (value : List (Record L) → A) (outcome : Outcome L) (at : ℕ) (gathered : A) (w : Walked value outcome at gathered) where
@@ -108,20 +139,3 @@ module _ {L : Type 0} (width : ℕ) (read : List ℕ → L) (bytes : List ℕ) (
               sym (ap (proceed go h w.earlier at) is ∙ ap (accept go h w.earlier at e) allowed) ∙ goes_on;
           so_far = is_more;
         }
-
-    -- where the outcome is accepted, so is each record, and the end is the outcome's
-    module _ (o : List (Record L) × ℕ) (accepted : outcome ≡ Ok o) where
-      pub walk_allows : (e : Record L × ℕ) → entry_at width read bytes at ≡ Ok (Some e) → objection h (labelled_in w.earlier) e.0 ≡ None
-      walk_allows e is = from (objection h (labelled_in w.earlier) e.0) refl
-        where
-          from : (c : Option Cause) → objection h (labelled_in w.earlier) e.0 ≡ c → c ≡ None
-          from None eq = refl
-          from (Some c) eq = let failed = walk_objects e is c eq in let z : ◌≡◌ {A = ℕ} 0 1 = cc in absurd (omega arith)
-
-      pub walk_gathers : ((e : Record L × ℕ) → entry_at width read bytes at ≡ Ok (Some e) → ⊥) → gathered ≡ value o.0
-      walk_gathers over = from (entry_at width read bytes at) refl
-        where
-          from : (x : Entry L) → entry_at width read bytes at ≡ x → gathered ≡ value o.0
-          from (Err c) is = let failed = walk_fails c is in let z : ◌≡◌ {A = ℕ} 0 1 = cc in absurd (omega arith)
-          from (Ok None) is = let ended = walk_ends is in let same : (w.earlier, at) ≡ o = cc in w.so_far ∙ ap (λ x. value x.0) same
-          from (Ok (Some e)) is = absurd (over e is)

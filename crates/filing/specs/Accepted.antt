@@ -1,11 +1,9 @@
 -- What stands in bytes: whether they are accepted with a header, and the system that they mean.
-use Rattle.std.specs.Prelude.{ℕ, ◌+◌, Bool, false, ◌&&◌, List, None, Ok, Err, Option, Result, ◌==◌, slice_index}
+use Rattle.std.specs.Prelude.{ℕ, ◌+◌, Bool, false, ◌&&◌, List, Ok, Err, Result, ◌==◌, slice_index}
 use Rattle.systems.specs.Meaning.{Meaning}
 use Rattle.filing.specs.declared.fault.Fault.{Fault}
 use Rattle.filing.specs.declared.header.Header.{Header}
-use Rattle.filing.specs.declared.record.Record.{Record}
 use Rattle.filing.specs.Contents.{Contents, contents, meaning_of}
-use Rattle.filing.specs.Format.{Entry}
 
 -- whether the contents are there, and have this header
 abbrev pub has_header : {L : Type 0} → Header → Result (Contents L) Fault → Bool
@@ -39,8 +37,3 @@ meaning_in plain (Err f) = lone plain
 -- the system that stands in bytes from a place on
 abbrev pub meaning_at : {L : Type 0} → L → (read : List ℕ → L) → (width : ℕ) → List ℕ → ℕ → Meaning L
 meaning_at plain read width bytes begin = meaning_in plain (contents_of width read bytes begin)
-
--- the record that an entry has, if any
-abbrev pub record_in : {L : Type 0} → Entry L → Option (Record L × ℕ)
-record_in (Ok o) = o
-record_in (Err c) = None

@@ -10,13 +10,12 @@ use Rattle.filing.specs.declared.record.Record.{Record}
 use Rattle.filing.specs.Format.{Entry, mark, entry_at}
 
 -- `SY` states, actions, start, label code: 1 to 64 states, 1 to 32 actions, a start that is present, the code of the kind filed
-abbrev pub is_system : Mark → Bool
-is_system Mark.System = true
-is_system Mark.Move = false
-is_system Mark.Open = false
-is_system Mark.Label = false
-is_system Mark.Unknown = false
-is_system Mark.Cut = false
+abbrev pub is_system : Result Mark Cause → Bool
+is_system (Ok Mark.System) = true
+is_system (Ok Mark.Move) = false
+is_system (Ok Mark.Open) = false
+is_system (Ok Mark.Label) = false
+is_system (Err c) = false
 
 abbrev pub in_bounds : ℕ → ℕ → ℕ → ℕ → ℕ → Bool
 in_bounds kind states actions start code =

@@ -1,6 +1,8 @@
--- The numbers of the faults.
-use Rattle.std.specs.Prelude.{ℕ}
+-- The numbers of the faults, and how a fault is written.
+use Rattle.std.specs.Prelude.{ℕ, List, ◌++◌, codes}
+use Rattle.std.specs.Fmt.{decimal}
 use Rattle.filing.specs.declared.fault.Cause.{Cause}
+use Rattle.filing.specs.declared.fault.Fault.{Fault}
 use Rattle.filing.specs.declared.fault.Cause.TheVariants.{NoSystem, UnknownMark, CutShort, BadSystem, Absent, SecondLabel}
 
 abbrev pub cause_number : Cause → ℕ
@@ -16,3 +18,7 @@ cause_number BadSystem = 4
 cause_number Absent = 5
 -- a second `LB` of a state
 cause_number SecondLabel = 6
+
+-- the number of its cause, and where it is: `5 at 7`
+abbrev pub fault_text : Fault → List ℕ
+fault_text f = decimal (cause_number f.cause) ++ codes " at " ++ decimal f.byte

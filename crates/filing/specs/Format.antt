@@ -6,16 +6,16 @@ use Rattle.filing.specs.declared.record.Mark.{Mark}
 use Rattle.filing.specs.declared.record.Record.{Record}
 
 -- the mark that two bytes spell: `SY`, `MV`, `OP`, `LB`, or none of them
-abbrev pub spelled : ℕ → ℕ → Mark
+abbrev pub spelled : ℕ → ℕ → Result Mark Cause
 spelled x y =
-    cond (x == 83 && y == 89) Mark.System
-    (cond (x == 77 && y == 86) Mark.Move
-    (cond (x == 79 && y == 80) Mark.Open
-    (cond (x == 76 && y == 66) Mark.Label Mark.Unknown)))
+    cond (x == 83 && y == 89) (Ok Mark.System)
+    (cond (x == 77 && y == 86) (Ok Mark.Move)
+    (cond (x == 79 && y == 80) (Ok Mark.Open)
+    (cond (x == 76 && y == 66) (Ok Mark.Label) (Err UnknownMark))))
 
 -- the mark at a place; one byte alone is a mark cut short
-abbrev pub mark : List ℕ → ℕ → Mark
-mark bytes at = cond (nat_lt (length bytes) (at + 2)) Mark.Cut (spelled (slice_index bytes at) (slice_index bytes (at + 1)))
+abbrev pub mark : List ℕ → ℕ → Result Mark Cause
+mark bytes at = cond (nat_lt (length bytes) (at + 2)) (Err CutShort) (spelled (slice_index bytes at) (slice_index bytes (at + 1)))
 
 -- what a place has: nothing more of this system, or a record and where the next begins
 abbrev pub Entry : Type 0 → Type 0
@@ -32,8 +32,11 @@ module _ {L : Type 0} (width : ℕ) (read : List ℕ → L) (bytes : List ℕ) (
   entry_of Mark.Move = whole bytes at 5 (Record.Move (slice_index bytes (at + 2)) (slice_index bytes (at + 3)) (slice_index bytes (at + 4)))
   entry_of Mark.Open = whole bytes at 4 (Record.Open (slice_index bytes (at + 2)) (slice_index bytes (at + 3)))
   entry_of Mark.Label = whole bytes at (3 + width) (Record.Label (slice_index bytes (at + 2)) (read (take width (drop (at + 3) bytes))))
-  entry_of Mark.Unknown = Err UnknownMark
-  entry_of Mark.Cut = Err CutShort
+
+  -- the same where there may be no mark
+  abbrev pub entry_if : Result Mark Cause → Entry L
+  entry_if (Ok m) = entry_of m
+  entry_if (Err c) = Err c
 
   unfoldable pub entry_at : Entry L
-  entry_at = cond (nat_le (length bytes) at) (Ok None) (entry_of (mark bytes at))
+  entry_at = cond (nat_le (length bytes) at) (Ok None) (entry_if (mark bytes at))

@@ -3,6 +3,7 @@ pub mod Contents
 pub mod Faults
 pub mod Format
 pub mod Place
+pub mod Reading
 pub mod Shape
 pub mod Standing
 pub mod Steps

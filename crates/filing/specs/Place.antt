@@ -16,7 +16,7 @@ module _ {L : Type 0} {g : Ghosts L} (plain : L) (read : List ℕ → L) (bytes 
   pub record Holds (c : Contents L) (s : Filed L g) : Type 0 where
     pub bytes_are : s.bytes.now ≡ bytes
     pub begin_is : s.begin ≡ begin
-    pub meaning_is : meaning_at plain read s.width s.bytes.now s.begin ≡ meaning_of plain c
+    pub meaning_is : meaning_at plain read g.WIDTH s.bytes.now s.begin ≡ meaning_of plain c
 
   -- the place after filing, by the contents and what it held before: refused, it is as it was
   abbrev pub Leaves : Result (Contents L) Fault → Filed L g → Filed L g → Type 0

@@ -6,7 +6,7 @@ use Rattle.filing.specs.declared.record.Mark.{Mark}
 use Rattle.filing.specs.declared.record.Record.{Record}
 use Rattle.filing.specs.Accepted.{has_header}
 use Rattle.filing.specs.Contents.{Outcome, accept, proceed, records_from, says_label, labelled_in, objection, with_header, header_at, contents, contents_after}
-use Rattle.filing.specs.Format.{Entry, whole, mark, entry_of, entry_at}
+use Rattle.filing.specs.Format.{Entry, whole, mark, entry_of, entry_if, entry_at}
 
 -- a record, an entry, an outcome, with each label left blank
 module _ {L : Type 0} where
@@ -67,12 +67,14 @@ module _ {L : Type 0} (width : ℕ) (read : List ℕ → L) (bytes : List ℕ) w
       marked Mark.Move = whole-blank at 5 _
       marked Mark.Open = whole-blank at 4 _
       marked Mark.Label = whole-blank at (3 + width) _
-      marked Mark.Unknown = refl
-      marked Mark.Cut = refl
 
-      go : (b : Bool) → cond b (Ok None) (entry_of width (λ bs. tt) bytes at (mark bytes at)) ≡ blank_entry (cond b (Ok None) (entry_of width read bytes at (mark bytes at)))
+      read_as : (m : Result Mark Cause) → entry_if width (λ bs. tt) bytes at m ≡ blank_entry (entry_if width read bytes at m)
+      read_as (Ok m) = marked m
+      read_as (Err c) = refl
+
+      go : (b : Bool) → cond b (Ok None) (entry_if width (λ bs. tt) bytes at (mark bytes at)) ≡ blank_entry (cond b (Ok None) (entry_if width read bytes at (mark bytes at)))
       go true = refl
-      go false = marked (mark bytes at)
+      go false = read_as (mark bytes at)
 
   records_blank : (h : Header) (n : ℕ) (earlier : List (Record L)) (at : ℕ) → records_from n width (λ bs. tt) bytes h (map blank earlier) at ≡ blank_outcome (records_from n width read bytes h earlier at)
   unfolding records_from

@@ -13,28 +13,23 @@ pub struct Header {
     pub start: u8,
 }
 
+#[tactic(auto, unfolding(crate::specs::Contents::header_at))]
 pub fn header_at<L: Label>(bytes: &[u8], at: usize) -> Result<Header, Cause>
-    ensures { result ≡ header_at L.Label.kind bytes.now at }
+    ensures { result ≡ header_at L.Label.CODE bytes.now at }
 {
-    let Mark::System = mark_at(bytes, at) else {
+    let Ok(Mark::System) = mark_at(bytes, at) else {
         return Err(Cause::NoSystem);
     };
-    if bytes.len() - at < 6 {
+    let Some([_, _, states, actions, start, code, ..]) = bytes.get(at..) else {
         return Err(Cause::CutShort);
-    }
-    header_of(
-        L::kind_code(),
-        bytes[at + 2],
-        bytes[at + 3],
-        bytes[at + 4],
-        bytes[at + 5],
-    )
+    };
+    header_of(L::CODE, *states, *actions, *start, *code)
 }
 
 fn header_of(kind: u8, states: u8, actions: u8, start: u8, code: u8) -> Result<Header, Cause>
     ensures { result ≡ header_of kind states actions start code }
 {
-    if states < 1 || states > 64 || actions < 1 || actions > 32 {
+    if !(1..=64).contains(&states) || !(1..=32).contains(&actions) {
         return Err(Cause::BadSystem);
     }
     if start >= states || code > 1 || code != kind {

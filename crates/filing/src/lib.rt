@@ -5,5 +5,5 @@ pub mod fault;
 pub mod filed;
 pub mod filing;
 mod header;
-mod reading;
 mod record;
+mod records;

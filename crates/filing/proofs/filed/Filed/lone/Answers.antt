@@ -12,5 +12,5 @@ pub returns : goal.returns
 unfolding records_from header_at contents entry_at
 returns g c =
     let r = c.new.result in
-    let same : contents_of r.width g.L.Label.read r.bytes.now r.begin ≡ contents_of c.byte_width.result g.L.Label.read (83 ∷ 89 ∷ 1 ∷ 1 ∷ 0 ∷ 0 ∷ []) 0 = cc in
+    let same : contents_of g.L.Label.WIDTH g.L.Label.read r.bytes.now r.begin ≡ contents_of g.L.Label.WIDTH g.L.Label.read (83 ∷ 89 ∷ 1 ∷ 1 ∷ 0 ∷ 0 ∷ []) 0 = cc in
     ap (meaning_in g.L.Label.plain) same

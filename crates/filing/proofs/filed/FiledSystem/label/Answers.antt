@@ -1,29 +1,34 @@
-use Rattle.std.proofs.Common.{◌≡◌, Bool, cond, ltb, sym, ap, ◌∙◌, arith}
+use Rattle.std.proofs.Common.{◌≡◌, Bool, None, cond, ltb, sym, refl, ap, ◌∙◌, rules, tests}
 use Rattle.std.proofs.lemmas.Bool.{lt-ltb, le-ltb}
-use Rattle.filing.specs.Contents.{label_in, label_or}
-use Rattle.filing.proofs.Asking.{filed, filed-fits, filed_meaning, asks_less, asks_on, asks_all}
+use Rattle.std.proofs.lemmas.Iterator.Consumers.{YieldsList-from_filter_map, YieldsList-from_first}
+use Rattle.std.specs.List.{filter_map}
+use Rattle.std.specs.Option.{unwrap_or}
+use Rattle.filing.specs.Reading.{left}
+use Rattle.filing.specs.Contents.{label_in}
+use Rattle.filing.proofs.Asking.{filed, filed_meaning, filed_list, asks, last_given, last_fold}
+use Rattle.filing.proofs.Says.{named, label_more}
 use Rattle.filing.proofs.filed.FiledSystem.label.Goals as goal
 use Rattle.filing.proofs.filed.FiledSystem.label.Goals.{then-p-header, else-p-header}
 
-pub overflow_add-at : goal.overflow_add-at
-overflow_add-at g c = omega (arith, (filed-fits g.L.Label.read c.args.self.now).inside)
-
-pub loop-said-smaller : goal.loop-said-smaller
-loop-said-smaller g c = asks_less g.L.Label.read c.args.self.now c.loop-said.at _ c.in-Some.ensures
-
-pub loop-said-preserved : goal.loop-said-preserved
-loop-said-preserved g c =
-    asks_on g.L.Label.read c.args.self.now c.loop-said.at _ c.in-Some.ensures _ c.loop-said.label _ c.loop-said.invariant
-    (λ rs e. c.label_by-label.ensures ∙ ap (label_or c.in-Some.said _) e)
-
 pub returns : goal.returns
 returns g c =
+    let s = c.args.self.now in
+    let plain = g.L.Label.plain in
+    let p = c.if-p-header.state in
     let either = λ (b : Bool). cond b c.args.p c.args.self.now.header.start in
-    let state : c.if-p-header.state ≡ either (ltb c.args.p c.args.self.now.header.states) =
+    let state : p ≡ either (ltb c.args.p c.args.self.now.header.states) =
     elim c.if-p-header.branch [
       | then-p-header w ↦ w.state-is ∙ ap either (sym (lt-ltb _ _ w.if-p-header.true))
       | else-p-header w ↦ w.state-is ∙ ap either (sym (le-ltb _ _ w.if-p-header.false))
     ] in
-    asks_all g.L.Label.read c.args.self.now _ _ _ c.loop-said.invariant c.in_default.ensures
-    ∙ ap (label_in g.L.Label.plain (filed g.L.Label.read c.args.self.now).records) state
-    ∙ sym (ap (λ m. m.label c.args.p) (filed_meaning g.L.Label.read c.args.self.now g.L.Label.plain))
+    asks s (λ l m. m) (named p) (λ rs. label_in plain rs p) (label_more plain p) plain _ refl
+    (c.unwrap_or.ensures
+    ∙ ap (unwrap_or c.last.result) c.unlabelled.ensures
+    ∙ ap (λ o. unwrap_or o plain)
+    (last_given _ c.last.ensures.ran
+    (YieldsList-from_filter_map _ (named p)
+    (YieldsList-from_first (λ x. x) (left g.L.Label.WIDTH g.L.Label.read) (filed_list s) cc)
+    c.filter_map.ensures.closure (λ x r q k. search (rules, tests))))
+    ∙ last_fold plain None (filter_map (named p) (filed_list s)))
+    ∙ ap (label_in plain (filed s).records) state
+    ∙ sym (ap (λ m. m.label c.args.p) (filed_meaning s))

@@ -1,27 +1,20 @@
-use Rattle.std.proofs.Common.{sym, ap, ◌∙◌, arith}
+use Rattle.std.proofs.Common.{rules, tests, sym, ap, ◌∙◌}
+use Rattle.std.proofs.lemmas.Iterator.Consumers.{fold_from_yields_List, YieldsList-from_filter_map, YieldsList-from_first}
 use Rattle.systems.specs.Sets.{set_of}
 use Rattle.systems.proofs.Sets.{set_of_none}
-use Rattle.filing.specs.Contents.{move_in, says_move}
-use Rattle.filing.proofs.Asking.{filed-fits, filed_meaning, asks_less, asks_on, asks_all}
-use Rattle.filing.proofs.Says.{set_more}
-use Rattle.filing.proofs.Walk.{walk_begins}
+use Rattle.filing.specs.Reading.{left}
+use Rattle.filing.specs.Contents.{move_in}
+use Rattle.filing.proofs.Asking.{filed_meaning, filed_list, asks}
+use Rattle.filing.proofs.Says.{with_member, moved, moves_more}
 use Rattle.filing.proofs.filed.FiledSystem.reach.Goals as goal
-
-pub overflow_add-at : goal.overflow_add-at
-overflow_add-at g c = omega (arith, (filed-fits g.L.Label.read c.args.self.now).inside)
-
-pub loop-said-init : goal.loop-said-init
-loop-said-init g c = walk_begins _ _ _ _ _ _ _ (sym (set_of_none 64))
-
-pub loop-said-smaller : goal.loop-said-smaller
-loop-said-smaller g c = asks_less g.L.Label.read c.args.self.now c.loop-said.at _ c.in-Some.ensures
-
-pub loop-said-preserved : goal.loop-said-preserved
-loop-said-preserved g c =
-    asks_on g.L.Label.read c.args.self.now c.loop-said.at _ c.in-Some.ensures _ c.loop-said.set _ c.loop-said.invariant
-    (λ rs e. set_more _ _ (move_in rs c.args.p c.args.a) (says_move c.in-Some.said c.args.p c.args.a) e c.add_target-set.ensures)
 
 pub returns : goal.returns
 returns g c =
-    asks_all g.L.Label.read c.args.self.now _ _ _ c.loop-said.invariant c.in_default.ensures
-    ∙ sym (ap (λ m. set_of 64 (m.moves c.args.p c.args.a)) (filed_meaning g.L.Label.read c.args.self.now g.L.Label.plain))
+    let s = c.args.self.now in
+    asks s with_member (moved c.args.p c.args.a) (λ rs. set_of 64 (move_in rs c.args.p c.args.a)) (moves_more c.args.p c.args.a) 0 _ (sym (set_of_none 64))
+    (fold_from_yields_List _ with_member 0 _ c.fold.ensures.ran
+    (YieldsList-from_filter_map _ (moved c.args.p c.args.a)
+    (YieldsList-from_first (λ x. x) (left g.L.Label.WIDTH g.L.Label.read) (filed_list s) cc)
+    c.filter_map.ensures.closure (λ x r q k. search (rules, tests)))
+    (λ a x b q k. search rules))
+    ∙ sym (ap (λ m. set_of 64 (m.moves c.args.p c.args.a)) (filed_meaning s))
