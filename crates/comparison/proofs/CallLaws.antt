@@ -28,6 +28,10 @@ round_accepted c h cells e =
     let still = unrefused c.still _ _ room.1 in
     (still.0, leb-false _ _ (unrefused _ _ _ still.1).0)
 
+-- the comparison that was handed on has a round left
+pub accepted_few : (c d : Open) (h : Handed) (cells : ℕ) → (round_refusal c h cells ≡ None) × (d ≡ c) → d.rounds < most_rounds
+accepted_few c d h cells (accepted, same) = rw same (round_accepted c h cells accepted).1
+
 -- a comparison that was just begun takes a round
 pub begun_accepts : (h : Handed) (cells : ℕ) → opening_refusal h cells ≡ None → round_refusal (begun h) h cells ≡ None
 unfolding round_refusal

@@ -1,7 +1,7 @@
--- What a grid laid over a list holds: its own cells within the grid, and the list's past it.
+-- What a grid laid over a list holds.
 use Rattle.std.proofs.Common.{◌≡◌, ℕ, ◌*◌, ◌<◌, ◌≤◌, List, length, get_or, ◌∙◌, ap₂, arith}
 use Rattle.std.proofs.lemmas.Nat.{mul-add-lt, div-mul-add, mod-mul-add}
-use Rattle.systems.proofs.Cells.{length-written, get_or-written, get_or-written_past}
+use Rattle.systems.proofs.Cells.{length-written, get_or-written}
 use Rattle.comparison.specs.Grid.{place, laid}
 
 -- the place of a pair lies within the grid
@@ -18,6 +18,3 @@ module _ {X : Type 0} (height width : ℕ) (f : ℕ → ℕ → X) (xs : List X)
       let h = place_within height width p q hp hq in
       get_or-written _ xs (height * width) (place width p q) d h (omega arith)
       ∙ ap₂ f (div-mul-add p width q hq) (mod-mul-add p width q hq)
-
-  pub laid_past : (i : ℕ) (d : X) → height * width ≤ i → get_or (laid height width f xs) i d ≡ get_or xs i d
-  laid_past = get_or-written_past _ xs (height * width)

@@ -1,30 +1,15 @@
 -- Relations held as masks: how a mask and a table of masks are collected.
-use Rattle.std.proofs.Common.{◌≡◌, ℕ, ◌+◌, ◌^◌, ◌<◌, ◌≤◌, true, false, cond, ◌&&◌, ◌||◌, eqb, ltb, ◌⊎◌, List, length, get_or, set, replicate, sym, ap, ◌∙◌, inl, inr, arith}
+use Rattle.std.proofs.Common.{◌≡◌, ℕ, ◌^◌, ◌<◌, ◌≤◌, cond, ◌&&◌, ltb, ◌⊎◌, List, length, get_or, replicate, sym, ap, ◌∙◌, inl, inr, arith}
 use mathlib.Core.Path.{fun_ext}
-use Rattle.std.proofs.lemmas.List.{get_or-set_same, get_or-set_other, get_or-replicate, get_or_past, length-replicate}
-use Rattle.std.proofs.lemmas.Bool.{cases_order, cases_lt, lt-ltb, le-ltb}
+use Rattle.std.proofs.lemmas.List.{get_or-replicate, get_or_past, length-replicate}
+use Rattle.std.proofs.lemmas.Bool.{cases_lt, lt-ltb, le-ltb}
 use Rattle.systems.specs.Sets.{has, set_of}
-use Rattle.systems.proofs.Sets.{has-set_of, has_beyond, has_none, set_of_lt, front_none, front_more}
+use Rattle.systems.specs.Cells.{written}
+use Rattle.systems.proofs.Cells.{get_or-written, get_or-written_past}
+use Rattle.systems.proofs.Sets.{has-set_of, has_beyond, has_none, set_of_lt}
 use Rattle.preorder.specs.Prebisimulation.{Relation}
 use Rattle.preorder.specs.Strikes.{Cells}
 use Rattle.comparison.specs.Search.{from_round, mask_of, related_in, relation_of, turned}
-
--- ---- a mask collected number by number
-
-module _ (R : Relation) (p : ℕ) where
-  pub mask_none : 0 ≡ mask_of 0 R p
-  unfolding mask_of
-  mask_none = sym (front_none 64 (R p))
-
-  module _ (q : ℕ) where
-    pub mask_same : (row : ℕ) → row ≡ mask_of q R p → R p q ≡ false → row ≡ mask_of (q + 1) R p
-    unfolding mask_of
-    mask_same row before e = sym (front_more 64 q (R p) false row before (sym e))
-
-    pub mask_more : (row next : ℕ) → row ≡ mask_of q R p → next ≡ set_of 64 (λ j. has row j || eqb j q) → R p q ≡ true
-        → next ≡ mask_of (q + 1) R p
-    unfolding mask_of
-    mask_more row next before after e = after ∙ sym (front_more 64 q (R p) true row before (sym e))
 
 -- ---- a table of masks
 
@@ -32,21 +17,16 @@ module _ (R : Relation) (p : ℕ) where
 abbrev pub Filled : List ℕ → ℕ → ℕ → Relation → Type 0
 Filled masks height width R = (p : ℕ) → get_or masks p 0 ≡ cond (ltb p height) (mask_of width R p) 0
 
-pub filled_none : (n width : ℕ) (R : Relation) → Filled (replicate n 0) 0 width R
-filled_none n width R p = rw (le-ltb p 0 (omega arith)) (go (cases_lt p n))
+-- the table of which the first masks are written over empty ones
+pub filled_written : (n height width : ℕ) (R : Relation) → height ≤ n → Filled (written height (mask_of width R) (replicate n 0)) height width R
+filled_written n height width R fits p = elim (cases_lt p height) [
+  | inl lt ↦ rw (lt-ltb p height lt) (get_or-written (mask_of width R) (replicate n 0) height p 0 lt (rw (length-replicate {A = ℕ} n 0) (omega arith)))
+  | inr ge ↦ rw (le-ltb p height ge) (get_or-written_past (mask_of width R) (replicate n 0) height p 0 ge ∙ empty (cases_lt p n))
+]
   where
-    go : (p < n) ⊎ (n ≤ p) → ◌≡◌ {A = ℕ} (get_or (replicate n 0) p 0) 0
-    go (inl lt) = get_or-replicate n p 0 0 lt
-    go (inr ge) = get_or_past (replicate n 0) p 0 (rw (length-replicate {A = ℕ} n 0) ge)
-
-pub filled_more : (masks : List ℕ) (height width : ℕ) (R : Relation) (x : ℕ) → height < length masks → Filled masks height width R
-    → x ≡ mask_of width R height → Filled (set masks height x) (height + 1) width R
-filled_more masks height width R x h before e p = go (cases_order p height)
-  where
-    go : (p ≡ height) ⊎ ((p < height) ⊎ (height < p)) → get_or (set masks height x) p 0 ≡ cond (ltb p (height + 1)) (mask_of width R p) 0
-    go (inl same) = rw (same, lt-ltb height (height + 1) (omega arith)) (get_or-set_same masks height x 0 h ∙ e)
-    go (inr (inl lt)) = get_or-set_other masks height p x 0 (omega arith) ∙ before p ∙ rw (lt-ltb p height lt, lt-ltb p (height + 1) (omega arith))
-    go (inr (inr gt)) = get_or-set_other masks height p x 0 (omega arith) ∙ before p ∙ rw (le-ltb p height (omega arith), le-ltb p (height + 1) (omega arith))
+    empty : (p < n) ⊎ (n ≤ p) → ◌≡◌ {A = ℕ} (get_or (replicate n 0) p 0) 0
+    empty (inl lt) = get_or-replicate n p 0 0 lt
+    empty (inr ge) = get_or_past (replicate n 0) p 0 (rw (length-replicate {A = ℕ} n 0) ge)
 
 -- a table that is filled stands for the relation's pairs within the height and the width
 pub filled_relates : (masks : List ℕ) (height width : ℕ) (R : Relation) → width ≤ 64 → Filled masks height width R

@@ -71,12 +71,12 @@ module _ {L : Type 0} (below : L → L → Bool) (m n : Meaning L) where
             absurd (both_ways (stopped below m n x) (or_from x.stage.still _ moving (lt-leb most_rounds x.stage.rounds low)) (ap (stopped below m n) e ∙ stop))
 
   -- an accepted run, by where it ended
-  pub run_answers : (bm : Bounded m) (bn : Bounded n) (allowance : ℕ) (c : Open) (before : List Strike) (r : Progress below m n)
-      → round_refusal c (handed m n) (length before) ≡ None → Running allowance (record { stage = c; sheet = before; done = 0; struck = 0 }) r
+  pub run_answers : (bm : Bounded m) (bn : Bounded n) (allowance : ℕ) (c d : Open) (before : List Strike) (r : Progress below m n)
+      → (round_refusal c (handed m n) (length before) ≡ None) × (d ≡ c) → Running allowance (record { stage = d; sheet = before; done = 0; struck = 0 }) r
       → (r.done ≡ allowance) ⊎ (stopped below m n r ≡ true) → Runs below m n allowance c before (Ok (r.stage, (r.done, r.struck))) r.sheet
   unfolding Runs run
-  run_answers bm bn allowance c before r accepted running ends =
-      let e = sym (running_ends bm bn allowance _ r running ends) in (
+  run_answers bm bn allowance c d before r (accepted, same) running ends =
+      let e = sym (running_ends bm bn allowance _ r (rw same at running) ends) in (
         accepted,
         ap (λ (x : Progress below m n). x.stage) e,
         ap (λ (x : Progress below m n). x.done) e,

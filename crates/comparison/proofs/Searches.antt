@@ -1,16 +1,29 @@
 -- What the searches of the code find.
-use Rattle.std.proofs.Common.{◌≡◌, ℕ, zero, suc, ◌^◌, ◌<◌, ◌≤◌, Bool, true, false, not, ◌&&◌, ◌||◌, eqb, ◌⊎◌, List, get_or, Some, None, Decides, Option, sym, refl, ap, ◌∙◌, ap₂, inl, inr, arith}
+use Rattle.std.proofs.Common.{◌≡◌, ℕ, zero, suc, ◌+◌, ◌^◌, ◌<◌, ◌≤◌, Bool, true, false, not, ◌&&◌, ◌||◌, eqb, ◌⊎◌, List, get_or, Some, None, Decides, Option, sym, refl, ap, ◌∙◌, ap₂, inl, inr, arith}
 use mathlib.Core.Path.{fun_ext}
+use denote.Param.Members.{Mut}
+use denote.Ref.{Bor}
 use lib.Bits.{bit_and, and_lt, bit_or}
 use Rattle.std.proofs.lemmas.Bool.{cases_lt, cases_Bool, eqb-true, eq-eqb, and_parts, and_from, true≢false}
 use Rattle.std.proofs.lemmas.Bool.Decides.{same_from_decides, Decides-not}
+use Rattle.std.proofs.lemmas.Iterator.Adapters.{option_map_id}
+use Rattle.std.proofs.iter.Yields.{nat_range_steps}
+use Rattle.std.proofs.iter.runs.Sources.{range_runs}
+use Rattle.std.proofs.lemmas.Iterator.{first_from_Range}
+use Rattle.std.specs.Fn.{Called, CalledAt}
+use Rattle.std.specs.Iterator.{FindsItem}
+use Rattle.std.specs.Iterator.Runs.{SomeRun, CallKeepsClosure, AllItemsGive, IsFirstToGive, ItemsCountUp}
+use Rattle.std.specs.Option.{MatchOption, option_map}
+use Rattle.std.specs.declared.ops.Range.{Range}
 use Rattle.systems.specs.Meaning.{Meaning, Bounded}
 use Rattle.systems.specs.Sets.{has, set_of}
 use Rattle.systems.proofs.Sets.{has_and, has_ext, has_none, has-set_of, set_of_lt, some_decides, has_or}
 use Rattle.preorder.specs.Prebisimulation.{Relation}
-use Rattle.preorder.specs.Reason.{Reason as Why, first, given, or_else, unanswered, forth_reason, mark_reason, back_reason}
+use Rattle.preorder.specs.Reason.{first, given, or_else, unanswered, forth_reason, mark_reason, back_reason}
 use Rattle.systems.proofs.Questions.{has_marks}
-use Rattle.comparison.specs.Search.{found, lowest, relation_of, turned, unmatched}
+use Rattle.comparison.specs.declared.reasons.Kind.TheVariants.{Forth, Mark, Back}
+use Rattle.comparison.specs.declared.reasons.Reason.{Reason}
+use Rattle.comparison.specs.Search.{found, lowest, relation_of, turned, unmatched, why}
 
 -- ---- the first that is there
 
@@ -31,6 +44,11 @@ module _ {X : Type 0} (f : ℕ → Option X) where
           let last : w ≡ a = omega arith in
           rw (first_none w (λ i l. none i (omega arith)), last) here
 
+pub first_same : {X : Type 0} (f g : ℕ → Option X) (w : ℕ) → ((i : ℕ) → i < w → f i ≡ g i) → first w f ≡ first w g
+unfolding first
+first_same f g zero e = refl
+first_same f g (suc w) e = ap₂ or_else (first_same f g w (λ i h. e i (omega arith))) (e w (omega arith))
+
 -- ---- the lowest number that passes a test
 
 module _ (f : ℕ → Bool) where
@@ -42,95 +60,119 @@ module _ (f : ℕ → Bool) where
   unfolding lowest given
   lowest_some w t h fails passes = first_some _ w t t h (λ i l. rw (fails i l)) (rw passes)
 
--- what a function makes of the lowest number
-mapped : {X : Type 0} → (ℕ → X) → Option ℕ → Option X
-mapped h (Some t) = Some (h t)
-mapped h None = None
+-- ---- what `find` and `find_map` over a range answer
 
-module _ {X : Type 0} (f : ℕ → Bool) (h : ℕ → X) where
-  first_mapped : (w : ℕ) → first w (λ t. given (f t) (h t)) ≡ mapped h (lowest w f)
-  unfolding first given or_else lowest mapped
-  first_mapped zero = refl
-  first_mapped (suc w) = ap₂ or_else (first_mapped w) (here (f w)) ∙ sym (joined (lowest w f) (given (f w) w))
+module _ {F : Type 0} (s : Range ℕ) (from : s.start ≡ 0) (f : F) where
+  pub find_lowest : {g : Mut F (Bor ℕ × Unit {0}) Bool} (test : ℕ → Bool) (u : Range ℕ) (r : Option ℕ) → FindsItem nat_range_steps g s f r u
+      → ((x : ℕ) (b : Bool) (q : F) → CalledAt g f x b q → (q ≡ f) × (b ≡ test x)) → r ≡ lowest s.end test
+  find_lowest {g} test u r ran says =
+      is r (first_from_Range s u f r (λ x. test x ≡ true) (λ x. test x ≡ false) ran (λ x q k. sym (says x true q k).1) (λ x q k. ((says x false q k).0, sym (says x false q k).1)))
     where
-      here : (b : Bool) → given b (h w) ≡ mapped h (given b w)
-      here true = refl
-      here false = refl
+      is : (o : Option ℕ) → MatchOption o ((k : ℕ) → s.start ≤ k → k < s.end → test k ≡ false)
+          (λ i. (s.start ≤ i) × (i < s.end) × (test i ≡ true) × ((k : ℕ) → s.start ≤ k → k < i → test k ≡ false)) → o ≡ lowest s.end test
+      is None h = sym (lowest_none test s.end (λ i l. h i (omega arith) l))
+      is (Some i) h = sym (lowest_some test s.end i h.1 (λ k l. h.3 k (omega arith) l) h.2)
 
-      joined : (x y : Option ℕ) → mapped h (or_else x y) ≡ or_else (mapped h x) (mapped h y)
-      joined (Some x) y = refl
-      joined None y = refl
+  pub find_map_first : {X : Type 0} {g : Mut F (ℕ × Unit {0}) (Option X)} (h : ℕ → Option X) (r : Option X)
+      → SomeRun nat_range_steps s (λ p. MatchOption r ((p.whole ≡ true) × AllItemsGive p g f None)
+      (λ y. (i : ℕ) × (i < p.len) × (p.len ≡ i + 1) × IsFirstToGive p g f (Some y) None i))
+      → ((x : ℕ) (o : Option X) (q : F) → Called g f (x, tt) o q → (q ≡ f) × (o ≡ h x)) → r ≡ first s.end h
+  find_map_first {X} {g} h r (p, at, ran) says = is r ran
+    where
+      counts : ItemsCountUp p p.from.start p.from.end
+      counts = range_runs p p.seen
 
-  pub first_lowest_none : (w : ℕ) → lowest w f ≡ None → first w (λ t. given (f t) (h t)) ≡ None
-  unfolding mapped
-  first_lowest_none w e = first_mapped w ∙ ap (mapped h) e
+      keeps : CallKeepsClosure g f
+      keeps x o q k = (says x.0 o q k).0
 
-  pub first_lowest_some : (w t : ℕ) → lowest w f ≡ Some t → first w (λ t. given (f t) (h t)) ≡ Some (h t)
-  unfolding mapped
-  first_lowest_some w t e = first_mapped w ∙ ap (mapped h) e
+      item : (k : ℕ) → k < p.len → p.at k ≡ Some k
+      item k l = sym (option_map_id (p.at k)) ∙ counts.3 k l ∙ ap Some (omega (arith, ap (λ (t : Range ℕ). t.start) at, from))
+
+      long : p.whole ≡ true → p.len ≡ s.end
+      long whole = omega (arith, counts.1 whole, ap (λ (t : Range ℕ). t.start) at, ap (λ (t : Range ℕ). t.end) at, from)
+
+      short : p.len ≤ s.end
+      short = omega (arith, counts.0, ap (λ (t : Range ℕ). t.start) at, ap (λ (t : Range ℕ). t.end) at, from)
+
+      is : (o : Option X) → MatchOption o ((p.whole ≡ true) × AllItemsGive p g f None)
+          (λ y. (i : ℕ) × (i < p.len) × (p.len ≡ i + 1) × IsFirstToGive p g f (Some y) None i) → o ≡ first s.end h
+      is None (whole, none) =
+          sym (first_none h s.end (λ k l. let here : k < p.len = omega (arith, long whole) in
+          sym (says k None f (rw (item k here) at (none keeps k))).1))
+      is (Some y) (i, l, last, found) =
+          sym (first_some h s.end i y (omega (arith, short)) (λ k lt. let here : k < p.len = omega arith in
+          sym (says k None f (rw (item k here) at ((found keeps).1 k lt))).1) (sym (says i (Some y) f (rw (item i l) at (found keeps).0)).1))
+
+pub lowest_same : (f g : ℕ → Bool) (w : ℕ) → ((i : ℕ) → i < w → f i ≡ g i) → lowest w f ≡ lowest w g
+unfolding lowest given
+lowest_same f g w e = first_same _ _ w (λ i h. rw (e i h))
+
+-- ---- what a function makes of them
+
+module _ {X Y : Type 0} (h : X → Y) where
+  map_or_else : (x y : Option X) → option_map h (or_else x y) ≡ or_else (option_map h x) (option_map h y)
+  unfolding or_else
+  map_or_else (Some x) y = refl
+  map_or_else None y = refl
+
+  map_first : (f : ℕ → Option X) (w : ℕ) → option_map h (first w f) ≡ first w (λ i. option_map h (f i))
+  unfolding first
+  map_first f zero = refl
+  map_first f (suc w) = map_or_else (first w f) (f w) ∙ ap (λ (x : Option Y). or_else x (option_map h (f w))) (map_first f w)
+
+  map_given : (b : Bool) (x : X) → option_map h (given b x) ≡ given b (h x)
+  unfolding given
+  map_given true x = refl
+  map_given false x = refl
+
+pub map_lowest : {X : Type 0} (h : ℕ → X) (f : ℕ → Bool) (w : ℕ) → option_map h (lowest w f) ≡ first w (λ t. given (f t) (h t))
+unfolding lowest
+map_lowest h f w = map_first h (λ t. given (f t) t) w ∙ first_same _ _ w (λ t l. map_given h (f t) t)
+
+map_twice : {X Y Z : Type 0} (h : Y → Z) (g : X → Y) (o : Option X) → option_map h (option_map g o) ≡ option_map (λ x. h (g x)) o
+map_twice h g (Some x) = refl
+map_twice h g None = refl
 
 -- an action by the lowest target that passes
-module _ {X : Type 0} (f : ℕ → ℕ → Bool) (h : ℕ → ℕ → X) (w v : ℕ) where
-  pub nested_none : ((a : ℕ) → a < w → lowest v (f a) ≡ None) → first w (λ a. first v (λ t. given (f a t) (h a t))) ≡ None
-  nested_none none = first_none _ w (λ a l. first_lowest_none (f a) (h a) v (none a l))
+pub map_nested : {X Y : Type 0} (h : X → Y) (g : ℕ → ℕ → X) (f : ℕ → ℕ → Bool) (w v : ℕ)
+    → option_map h (first w (λ a. option_map (g a) (lowest v (f a)))) ≡ first w (λ a. first v (λ t. given (f a t) (h (g a t))))
+map_nested h g f w v =
+    map_first h _ w ∙ first_same _ _ w (λ a l. map_twice h (g a) (lowest v (f a)) ∙ map_lowest (λ t. h (g a t)) (f a) v)
 
-  pub nested_some : (a t : ℕ) → a < w → ((i : ℕ) → i < a → lowest v (f i) ≡ None) → lowest v (f a) ≡ Some t
-      → first w (λ a. first v (λ t. given (f a t) (h a t))) ≡ Some (h a t)
-  nested_some a t l none here = first_some _ w a (h a t) l (λ i k. first_lowest_none (f i) (h i) v (none i k)) (first_lowest_some (f a) (h a) v t here)
-
--- ---- reasons as the code holds them
-
-pub found-or_else : (x y : Option Why) → found (or_else x y) ≡ or_else (found x) (found y)
-unfolding found or_else
-found-or_else (Some x) y = refl
-found-or_else None y = refl
+-- ---- reasons as the code finds them
 
 module _ {L : Type 0} (m n : Meaning L) (R : Relation) (p q : ℕ) where
-  pub forth_none : ((a : ℕ) → a < m.actions → lowest m.states (unanswered m n R p q a) ≡ None) → None ≡ found (forth_reason m n R p q)
-  unfolding forth_reason found
-  forth_none none = sym (ap found (nested_none (unanswered m n R p q) _ m.actions m.states none))
+  pub forth_found : (r : Option Reason) (w : ℕ) → w ≡ m.actions
+      → r ≡ first w (λ a. option_map (λ t. record { kind = Forth; action = a; target = t }) (lowest m.states (unanswered m n R p q a)))
+      → found r ≡ forth_reason m n R p q
+  unfolding forth_reason
+  forth_found r w all e = ap found (rw all at e) ∙ map_nested why (λ a t. record { kind = Forth; action = a; target = t }) (unanswered m n R p q) m.actions m.states
 
-  pub forth_some : (a t : ℕ) → a < m.actions → ((i : ℕ) → i < a → lowest m.states (unanswered m n R p q i) ≡ None)
-      → lowest m.states (unanswered m n R p q a) ≡ Some t → Some (record { kind = 1; action = a; target = t }) ≡ found (forth_reason m n R p q)
-  unfolding forth_reason found
-  forth_some a t h none here =
-      sym (ap found (nested_some (unanswered m n R p q) (λ a t. record { kind = 1; action = a; target = t }) m.actions m.states a t h none here))
+  pub mark_found : (r : Option Reason) (w : ℕ) → w ≡ m.actions
+      → r ≡ first w (λ a. option_map (λ t. record { kind = Mark; action = a; target = t }) (given (not (m.marks p a) && n.marks q a) 0))
+      → found r ≡ mark_reason m n R p q
+  unfolding mark_reason
+  mark_found r w all e = ap found (rw all at e) ∙ map_first why _ m.actions ∙ first_same _ _ m.actions (λ a l. map_twice why _ _ ∙ map_given _ _ 0)
 
-  pub mark_none : ((a : ℕ) → a < m.actions → (not (m.marks p a) && n.marks q a) ≡ false) → None ≡ found (mark_reason m n R p q)
-  unfolding mark_reason found
-  mark_none none = sym (ap found (first_lowest_none _ _ m.actions (lowest_none _ m.actions none)))
-
-  pub mark_some : (a : ℕ) → a < m.actions → ((i : ℕ) → i < a → (not (m.marks p i) && n.marks q i) ≡ false)
-      → (not (m.marks p a) && n.marks q a) ≡ true → Some (record { kind = 2; action = a; target = 0 }) ≡ found (mark_reason m n R p q)
-  unfolding mark_reason found
-  mark_some a h none here =
-      sym (ap found (first_lowest_some (λ i. not (m.marks p i) && n.marks q i) (λ a. record { kind = 2; action = a; target = 0 }) m.actions a
-      (lowest_some _ m.actions a h none here)))
-
-  -- here the relation is held from q's side
-  pub back_none : ((a : ℕ) → a < m.actions → lowest n.states (unmatched m n R p q a) ≡ None) → None ≡ found (back_reason m n (turned R) p q)
-  unfolding back_reason found turned unmatched
-  back_none none = sym (ap found (nested_none (unmatched m n R p q) _ m.actions n.states none))
-
-  pub back_some : (a t : ℕ) → a < m.actions → ((i : ℕ) → i < a → lowest n.states (unmatched m n R p q i) ≡ None)
-      → lowest n.states (unmatched m n R p q a) ≡ Some t → Some (record { kind = 3; action = a; target = t }) ≡ found (back_reason m n (turned R) p q)
-  unfolding back_reason found turned unmatched
-  back_some a t h none here =
-      sym (ap found (nested_some (unmatched m n R p q) (λ a t. record { kind = 3; action = a; target = t }) m.actions n.states a t h none here))
+  pub back_found : (r : Option Reason) (w : ℕ) → w ≡ m.actions
+      → r ≡ first w (λ a. option_map (λ t. record { kind = Back; action = a; target = t }) (lowest n.states (unmatched m n R p q a)))
+      → found r ≡ back_reason m n R p q
+  unfolding back_reason unmatched turned
+  back_found r w all e = ap found (rw all at e) ∙ map_nested why (λ a t. record { kind = Back; action = a; target = t }) (unmatched m n R p q) m.actions n.states
 
   -- a state open on an action has nothing to match on it
   pub open_unmatched : (a : ℕ) → (m.marks p a || n.marks q a) ≡ true → None ≡ lowest n.states (unmatched m n R p q a)
   unfolding unmatched
-  open_unmatched a e = sym (lowest_none _ n.states (λ u h. go (m.marks p a) (n.marks q a) (unanswered n m R q p a u) e))
+  open_unmatched a e = sym (lowest_none _ n.states (λ u h. go (m.marks p a) (n.marks q a) (unanswered n m (turned R) q p a u) e))
     where
       go : (x y z : Bool) → (x || y) ≡ true → ((not x && not y) && z) ≡ false
       go true y z e = refl
       go false true z e = refl
       go false false z e = absurd (true≢false (sym e))
 
-  pub closed_unmatched : (a : ℕ) → m.marks p a ≡ false → n.marks q a ≡ false → unanswered n m R q p a ≡ unmatched m n R p q a
+  pub closed_unmatched : (S : Relation) → S ≡ turned R → (a : ℕ) → m.marks p a ≡ false → n.marks q a ≡ false → unanswered n m S q p a ≡ unmatched m n R p q a
   unfolding unmatched
-  closed_unmatched a shut shut' = fun_ext (λ u. rw (shut, shut'))
+  closed_unmatched S same a shut shut' = fun_ext (λ u. rw (same, shut, shut'))
 
 -- ---- the test of a move, by masks
 

@@ -72,8 +72,7 @@ module _ {L : Type 0} (below : L → L → Bool) (m n : Meaning L) where
     run_not_refused a c s after x o r =
         let none = opened_run_accepted s o.0 o.2 in
         let z : None ≡ Some x.refusal = sym none ∙ ap (λ (y : Open). round_refusal y (handed m n) (length s)) (sym o.1) ∙ r.0.0 in
-        let d : ◌≡◌ {A = ℕ} 0 1 = cc in
-        omega arith
+        cc
 
     same_run : (allowance : ℕ) (c : Open) (s : List Strike) → allowance ≡ most_rounds → c ≡ begun (handed m n)
         → s ≡ opened_sheet below m n before → run below m n allowance c s ≡ opened_run below m n before
@@ -87,8 +86,7 @@ module _ {L : Type 0} (below : L → L → Bool) (m n : Meaning L) where
         let same = same_run allowance c s all o.1 o.2 in
         let (v, e, right) = settles order bm bn before o.0 in
         let z : Ok v ≡ Err x.refusal = sym e ∙ sym (ap₂ closing (r.1 ∙ ap (λ y. y.stage) same) (r.4 ∙ ap (λ y. y.sheet) same)) ∙ k.0 in
-        let d : ◌≡◌ {A = ℕ} 0 1 = cc in
-        omega arith
+        cc
 
     pub settled : (allowance : ℕ) (c : Open) (s after : List Strike) (a : Open × (ℕ × ℕ)) (v : Verdict) → allowance ≡ most_rounds
         → Opens below m n before (Ok c) s → Runs below m n allowance c s (Ok a) after → Closes a.0 after (Ok v)

@@ -82,6 +82,11 @@ round_refusal c h cells =
 abbrev pub RefusesRound : Open → Handed → ℕ → Refused → Type 0
 RefusesRound c h cells x = (round_refusal c h cells ≡ Some x.refusal) × (x.comparison ≡ c)
 
+-- a round or a run that is not refused hands the comparison on
+abbrev pub TakesRound : Open → Handed → ℕ → Result Open Refused → Type 0
+TakesRound c h cells (Ok d) = (round_refusal c h cells ≡ None) × (d ≡ c)
+TakesRound c h cells (Err x) = RefusesRound c h cells x
+
 -- the comparison after one more round that struck so many pairs
 abbrev pub one_more : Open → ℕ → Open
 one_more c struck = record { shape = c.shape; rounds = c.rounds + 1; still = (struck == 0) }

@@ -1,11 +1,13 @@
 -- The words of the steps that the calls are made of.
 use Rattle.std.specs.Prelude.{ℕ, zero, suc, Bool, cond, not, ◌&&◌, List, is_some, Some, None, Option, nat_le, nat_lt, slice_index, slice_set}
-use Rattle.std.specs.Option.{unwrap_or}
+use Rattle.std.specs.Option.{option_map, unwrap_or}
 use Rattle.systems.specs.Meaning.{Meaning}
 use Rattle.systems.specs.Sets.{has, set_of}
 use Rattle.preorder.specs.Prebisimulation.{Relation}
 use Rattle.preorder.specs.Reason.{Reason as Why, first, given, reason, unanswered}
 use Rattle.preorder.specs.Strikes.{Cells, opened, struck_at}
+use Rattle.comparison.specs.declared.reasons.Kind.{Kind}
+use Rattle.comparison.specs.declared.reasons.Kind.TheVariants.{Forth, Mark, Back}
 use Rattle.comparison.specs.declared.reasons.Reason.{Reason}
 use Rattle.comparison.specs.declared.strike.Strike.{Strike}
 use Rattle.comparison.specs.Grid.{place}
@@ -48,14 +50,22 @@ related_in height width k c p q = (nat_lt p height && nat_lt q width) && from_ro
 unfoldable pub lowest : ℕ → (ℕ → Bool) → Option ℕ
 lowest w f = first w (λ i. given (f i) i)
 
--- a reason as the code holds it
-unfoldable pub found : Option Why → Option Reason
-found (Some r) = Some (record { kind = r.kind; action = r.action; target = r.target })
-found None = None
+-- the number of a kind of reason
+abbrev pub kind_number : Kind → ℕ
+kind_number Forth = 1
+kind_number Mark = 2
+kind_number Back = 3
 
--- p and q are closed on a, and q moves by a to a state that p does not answer; the relation is held from q's side
+-- what a reason that the code found is
+abbrev pub why : Reason → Why
+why r = record { kind = kind_number r.kind; action = r.action; target = r.target }
+
+abbrev pub found : Option Reason → Option Why
+found o = option_map why o
+
+-- p and q are closed on a, and q moves by a to a state that p does not answer
 unfoldable pub unmatched : {L : Type 0} → Meaning L → Meaning L → Relation → ℕ → ℕ → ℕ → ℕ → Bool
-unmatched m n R p q a u = (not (m.marks p a) && not (n.marks q a)) && unanswered n m R q p a u
+unmatched m n R p q a u = (not (m.marks p a) && not (n.marks q a)) && unanswered n m (turned R) q p a u
 
 -- ---- strikes over a relation
 

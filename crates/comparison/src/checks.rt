@@ -1,8 +1,9 @@
 // Whether a call is refused, by the systems and the sheet that it is handed.
 ghost use Rattle.std.specs.Prelude.{◌≡◌};
-ghost use Rattle.comparison.specs.Calls.{begun, fits, handed, opening_refusal, round_refusal};
+ghost use Rattle.std.specs.Result.{result_err};
+ghost use Rattle.comparison.specs.Calls.{TakesRound, begun, fits, handed, opening_refusal};
 
-use crate::refusal::Refusal;
+use crate::refusal::{Refusal, Refused};
 use crate::stage::{Open, Shape};
 use systems::label::Label;
 use systems::system::System;
@@ -10,6 +11,7 @@ use systems::system::System;
 // how many rounds a comparison may do
 pub(crate) const MOST_ROUNDS: u16 = 4097;
 
+// The two systems are two parameters, here and in the calls: a pair of them would make each clause longer, and the calls are handed two.
 pub(crate) fn shape_of<L: Label, A: System<L>, B: System<L>>(first: &A, second: &B) -> Shape
     ensures { result ≡ (begun (handed (A.System.meaning first.now) (B.System.meaning second.now))).shape }
 {
@@ -22,52 +24,53 @@ pub(crate) fn shape_of<L: Label, A: System<L>, B: System<L>>(first: &A, second: 
     }
 }
 
-pub(crate) fn opening_refusal<L: Label, A: System<L>, B: System<L>>(
+// whether two systems may be compared on a sheet of so many cells
+#[tactic(auto, unfolding(crate::specs::Calls::opening_refusal))]
+pub(crate) fn check_opening<L: Label, A: System<L>, B: System<L>>(
     first: &A,
     second: &B,
     cells: usize,
-) -> Option<Refusal>
-    ensures { result ≡ opening_refusal (handed (A.System.meaning first.now) (B.System.meaning second.now)) cells }
+) -> Result<(), Refusal>
+    ensures { result_err result ≡ opening_refusal (handed (A.System.meaning first.now) (B.System.meaning second.now)) cells }
 {
     if first.actions() != second.actions() {
-        return Some(Refusal::ActionsDiffer);
+        return Err(Refusal::ActionsDiffer);
     }
     if cells < shape_of(first, second).pairs() {
-        return Some(Refusal::SheetShort);
+        return Err(Refusal::SheetShort);
     }
-    None
+    Ok(())
 }
 
 // whether these are the comparison's systems, by their counts and starts
 fn same_systems<L: Label, A: System<L>, B: System<L>>(shape: Shape, first: &A, second: &B) -> bool
     ensures { result ≡ fits shape (handed (A.System.meaning first.now) (B.System.meaning second.now)) }
 {
-    let states = (first.states() == shape.first_states) & (second.states() == shape.second_states);
-    let actions = (first.actions() == shape.actions) & (second.actions() == shape.actions);
-    let starts = (first.start() == shape.first_start) & (second.start() == shape.second_start);
-    states & actions & starts
+    shape_of(first, second) == shape && second.actions() == shape.actions
 }
 
-pub(crate) fn round_refusal<L: Label, A: System<L>, B: System<L>>(
-    comparison: &Open,
+// Hands the comparison on if a round or a run may be done with these systems on a sheet of so many cells.
+#[tactic(auto, unfolding(crate::specs::Calls::round_refusal))]
+pub(crate) fn accept_round<L: Label, A: System<L>, B: System<L>>(
+    comparison: Open,
     first: &A,
     second: &B,
     cells: usize,
-) -> Option<Refusal>
-    ensures { result ≡ round_refusal comparison.now (handed (A.System.meaning first.now) (B.System.meaning second.now)) cells }
+) -> Result<Open, Refused>
+    ensures { TakesRound comparison (handed (A.System.meaning first.now) (B.System.meaning second.now)) cells result }
 {
     let shape = comparison.shape;
     if !same_systems(shape, first, second) {
-        return Some(Refusal::OtherSystems);
+        return Err(comparison.refused(Refusal::OtherSystems));
     }
     if cells < shape.pairs() {
-        return Some(Refusal::SheetShort);
+        return Err(comparison.refused(Refusal::SheetShort));
     }
     if comparison.still {
-        return Some(Refusal::AfterStill);
+        return Err(comparison.refused(Refusal::AfterStill));
     }
     if comparison.rounds >= MOST_ROUNDS {
-        return Some(Refusal::RoundsSpent);
+        return Err(comparison.refused(Refusal::RoundsSpent));
     }
-    None
+    Ok(comparison)
 }

@@ -29,19 +29,13 @@ impl Grid {
     pub fn get<T: Copy>(&self, cells: &[T], p: u8, q: u8) -> Option<T>
         ensures { result ≡ slice_get cells.now (place self.now.width p q) }
     {
-        let at = self.place(p, q);
-        if at < cells.len() {
-            Some(cells[at])
-        } else {
-            None
-        }
+        cells.get(self.place(p, q)).copied()
     }
 
     // a pair whose place lies past the slice changes nothing
     pub fn set<T: Copy>(&self, cells: &mut [T], p: u8, q: u8, value: T)
         ensures { cells.new ≡ slice_set cells.old (place self.now.width p q) value }
     {
-        let i = self.place(p, q);
-        set_cell(cells, i, value);
+        set_cell(cells, self.place(p, q), value);
     }
 }

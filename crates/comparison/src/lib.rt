@@ -1,12 +1,9 @@
 // Comparing two systems: opening, rounds, runs and closing over a sheet of strikes.
 #![tactic(auto)]
 
-mod back;
 mod checks;
 pub mod closing;
-mod forth;
 pub mod grid;
-mod marks;
 mod moves;
 pub mod opening;
 mod reasons;

@@ -22,12 +22,7 @@ pub(crate) fn unanswered<L: Label, M: System<L>, O: System<L>>(
 {
     let reached = mover.reach(p, a);
     let answers = other.reach(q, a);
-    for t in 0..mover.states() {
-        if is_lost(reached, related[usize::from(t)], answers, t) {
-            return Some(t);
-        }
-    }
-    None
+    (0..mover.states()).find(|&t| is_lost(reached, related[usize::from(t)], answers, t))
 }
 
 // whether a target is reached and none of the states related to it is an answer

@@ -2,14 +2,14 @@
 ghost use Rattle.std.specs.Prelude.{◌≡◌};
 ghost use Rattle.comparison.specs.Calls.{Opens};
 ghost use Rattle.comparison.specs.History.{EveryHistory};
-ghost use Rattle.comparison.specs.Search.{opened_strike, row_filled};
+ghost use Rattle.comparison.specs.Search.{opened_strike};
 
-use crate::checks::{opening_refusal, shape_of};
-use crate::grid::Grid;
+use crate::checks::{check_opening, shape_of};
 use crate::refusal::Refusal;
 use crate::stage::Open;
 use crate::strike::Strike;
 use systems::label::Label;
+use systems::sheet::write_first;
 use systems::system::System;
 
 // Strikes the pairs whose labels fail and makes the others unstruck.
@@ -21,14 +21,12 @@ pub fn begin<L: Label, A: System<L>, B: System<L>>(
     ensures step { Opens L.Label.below (A.System.meaning first.now) (B.System.meaning second.now) sheet.old result sheet.new }
     ensures law { EveryHistory L.Label.below (A.System.meaning first.now) (B.System.meaning second.now) }
 {
-    if let Some(refusal) = opening_refusal(first, second, sheet.len()) {
-        return Err(refusal);
-    }
+    check_opening(first, second, sheet.len())?;
     let shape = shape_of(first, second);
-    let grid = shape.grid();
-    for p in 0..grid.height {
-        open_row(first, second, grid, p, sheet);
-    }
+    let width = usize::from(shape.second_states);
+    write_first(sheet, shape.pairs(), |i| {
+        opened_cell(first, second, (i / width) as u8, (i % width) as u8)
+    });
     Ok(Open {
         shape,
         rounds: 0,
@@ -36,21 +34,8 @@ pub fn begin<L: Label, A: System<L>, B: System<L>>(
     })
 }
 
-// the first cells of row p, one for each second state
-fn open_row<L: Label, A: System<L>, B: System<L>>(
-    first: &A,
-    second: &B,
-    grid: Grid,
-    p: u8,
-    sheet: &mut [Strike],
-)
-    ensures { sheet.new ≡ row_filled grid.width p grid.width (opened_strike L.Label.below (A.System.meaning first.now) (B.System.meaning second.now) p) sheet.old }
-{
-    for q in 0..grid.width {
-        grid.set(sheet, p, q, opened_cell(first, second, p, q));
-    }
-}
-
+// the cell of the pair (p, q)
+#[tactic(auto, unfolding(preorder::specs::Strikes::opened, crate::specs::Search::opened_strike))]
 fn opened_cell<L: Label, A: System<L>, B: System<L>>(first: &A, second: &B, p: u8, q: u8) -> Strike
     ensures { result ≡ opened_strike L.Label.below (A.System.meaning first.now) (B.System.meaning second.now) p q }
 {

@@ -2,17 +2,19 @@
 ghost use Rattle.std.specs.Prelude.{◌≡◌, ◌<◌};
 ghost use Rattle.comparison.specs.Calls.{Rounds, one_more, round_sheet, round_strikes};
 
-use crate::checks::round_refusal;
+use crate::checks::accept_round;
 use crate::grid::Grid;
 use crate::refusal::Refused;
-use crate::relation::{columns, related_rows};
+use crate::relation::Related;
 use crate::stage::Open;
 use crate::strike::Strike;
-use crate::striking::strike_rows;
+use crate::striking::Round;
+use std::marker::PhantomData;
 use systems::label::Label;
 use systems::system::System;
 
 // Strikes each related pair that has a reason, and answers how many.
+#[tactic(auto, unfolding(crate::specs::Calls::Rounds, crate::specs::Calls::round_refusal))]
 pub fn round<L: Label, A: System<L>, B: System<L>>(
     comparison: Open,
     first: &A,
@@ -21,13 +23,8 @@ pub fn round<L: Label, A: System<L>, B: System<L>>(
 ) -> Result<(Open, u32), Refused>
     ensures { Rounds L.Label.below (A.System.meaning first.now) (B.System.meaning second.now) comparison sheet.old result sheet.new }
 {
-    if let Some(refusal) = round_refusal(&comparison, first, second, sheet.len()) {
-        return Err(Refused {
-            refusal,
-            comparison,
-        });
-    }
-    Ok(advance(comparison, first, second, sheet))
+    let accepted = accept_round(comparison, first, second, sheet.len())?;
+    Ok(advance(accepted, first, second, sheet))
 }
 
 // A round that is not refused. The related pairs are taken out of the sheet before the first strike is written.
@@ -47,9 +44,15 @@ pub(crate) fn advance<L: Label, A: System<L>, B: System<L>>(
         width: second.states(),
     };
     let k = comparison.rounds + 1;
-    let rows = related_rows(grid, sheet, k);
-    let columns = columns(&rows);
-    let struck = strike_rows(first, second, &rows, &columns, k, sheet);
+    let related = Related::in_sheet(grid, sheet, k);
+    let round = Round {
+        first,
+        second,
+        k,
+        related,
+        labels: PhantomData,
+    };
+    let struck = round.strike_rows(sheet);
     let next = Open {
         shape: comparison.shape,
         rounds: k,

@@ -1,7 +1,7 @@
 // A run of rounds with an allowance.
 ghost use Rattle.comparison.specs.Calls.{Runs};
 
-use crate::checks::{MOST_ROUNDS, round_refusal};
+use crate::checks::{MOST_ROUNDS, accept_round};
 use crate::refusal::Refused;
 use crate::round::advance;
 use crate::stage::Open;
@@ -19,20 +19,15 @@ pub fn run<L: Label, A: System<L>, B: System<L>>(
 ) -> Result<(Open, (u32, u32)), Refused>
     ensures { Runs L.Label.below (A.System.meaning first.now) (B.System.meaning second.now) allowance comparison sheet.old result sheet.new }
 {
-    if let Some(refusal) = round_refusal(&comparison, first, second, sheet.len()) {
-        return Err(Refused {
-            refusal,
-            comparison,
-        });
-    }
-    let mut stage = comparison;
-    let mut done = 0;
+    let mut stage = accept_round(comparison, first, second, sheet.len())?;
     let mut struck = 0;
-    while done < allowance && !stage.still && stage.rounds < MOST_ROUNDS {
+    for done in 0..allowance {
+        if stage.still || stage.rounds >= MOST_ROUNDS {
+            return Ok((stage, (done, struck)));
+        }
         let (next, more) = advance(stage, first, second, sheet);
         stage = next;
-        done += 1;
         struck += more;
     }
-    Ok((stage, (done, struck)))
+    Ok((stage, (allowance, struck)))
 }

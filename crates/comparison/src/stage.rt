@@ -16,14 +16,14 @@ pub struct Shape {
 }
 
 // an open comparison: how many rounds it has done, and whether the last one was still
-#[derive(Drop)]
+#[derive(Debug, Drop)]
 pub struct Open {
     pub(crate) shape: Shape,
     pub(crate) rounds: u16,
     pub(crate) still: bool,
 }
 
-// a comparison that was closed as yes
+// A comparison that was closed as yes. It is a type of its own, though like the next, so that a call for a no cannot be handed it.
 #[derive(Drop)]
 pub struct Yes {
     pub(crate) shape: Shape,

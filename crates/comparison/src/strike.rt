@@ -8,6 +8,7 @@ use crate::grid::Grid;
 #[derive(Clone, Copy, PartialEq, Eq, Debug)]
 pub struct Strike {
     pub round: u16,
+    // a plain number: a narrower type would ask more of who lends the sheet
     pub kind: u8,
     pub action: u8,
     pub target: u8,
@@ -31,7 +32,8 @@ impl Strike {
     };
 }
 
-// the cell that a sheet holds for a pair, blank where the sheet does not reach so far
+// The cell that a sheet holds for a pair, blank where the sheet does not reach so far. Grid and sheet are two: a grid is the layout of
+// cells of any type, lent to be read or to be written.
 pub fn strike_at(grid: Grid, sheet: &[Strike], p: u8, q: u8) -> Strike
     ensures { result ≡ strike_of (cells_of grid.width sheet.now p q) }
 {

@@ -1,11 +1,10 @@
-use Rattle.std.proofs.Common.{◌≡◌, refl, arith}
-use Rattle.comparison.proofs.Masks.{filled_none, turned_table}
+use Rattle.std.proofs.Common.{rules, ap, ◌∙◌, arith}
+use Rattle.comparison.specs.Search.{mask_of, relation_of, turned}
+use Rattle.comparison.proofs.Masks.{filled_written, turned_table}
 use Rattle.comparison.proofs.relation.columns.Goals as goal
-
-pub loop-q-init : goal.loop-q-init
-loop-q-init c = (refl, filled_none 64 _ _)
 
 pub returns : goal.returns
 returns c =
-    let all : c.loop-q.q ≡ 64 = omega arith in
-    turned_table c.args.rows.now c.loop-q.columns c.requires (λ i. (c.type_inv.rows i).fits) (rw all at c.loop-q.invariant.1)
+    let R = turned (relation_of c.args.rows.now) in
+    ap relation_of (c.write_first.ensures (mask_of 64 R) (λ q x h k. search rules))
+    ∙ turned_table _ _ c.told-rows c.fits-rows (filled_written 64 64 64 R (omega arith))

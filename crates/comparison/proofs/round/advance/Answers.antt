@@ -42,7 +42,7 @@ module _ {L : Type 0} (below : L → L → Bool) (m n : Meaning L) where
 pub returns : goal.returns
 returns g c =
     record {
-      struck = strikes_are _ _ _ _ _ _ _ _ c.states.ensures c.states-2.ensures c.related_rows-rows.ensures _ c.strike_rows-struck.ensures.struck;
+      struck = strikes_are _ _ _ _ _ _ _ _ c.states.ensures c.states-2.ensures c.in_sheet-related.ensures _ c.strike_rows-struck.ensures.struck;
       stage = refl;
-      cells = cells_are _ _ _ _ _ _ _ _ c.states.ensures c.states-2.ensures c.related_rows-rows.ensures _ c.strike_rows-struck.ensures.cells;
+      cells = cells_are _ _ _ _ _ _ _ _ c.states.ensures c.states-2.ensures c.in_sheet-related.ensures _ c.strike_rows-struck.ensures.cells;
     }

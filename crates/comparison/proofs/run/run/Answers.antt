@@ -1,18 +1,21 @@
-use Rattle.std.proofs.Common.{sym, refl, ◌∙◌, inl, inr, arith}
-use Rattle.std.proofs.lemmas.Bool.{le-leb, not-false, not-true, or_left, or_right}
+use Rattle.std.proofs.Common.{◌≡◌, refl, inl, inr, arith}
+use Rattle.std.proofs.lemmas.Bool.{le-leb, or_left, or_right}
+use Rattle.std.proofs.lemmas.Result.{err_from_is_err_and}
 use Rattle.comparison.specs.Calls.{Runs}
-use Rattle.comparison.proofs.CallLaws.{round_accepted}
+use Rattle.comparison.proofs.CallLaws.{accepted_few}
 use Rattle.comparison.proofs.Running.{running_starts, running_more, run_answers, strikes_few}
 use Rattle.comparison.proofs.run.run.Goals as goal
 
-pub returns-in-Some : goal.returns-in-Some
+pub returns-in_err-stage : goal.returns-in_err-stage
 unfolding Runs
-returns-in-Some g c = ((sym c.round_refusal.ensures ∙ c.in-Some.is, refl), refl)
+returns-in_err-stage g c =
+    let p = err_from_is_err_and c.from_residual.result c.from_residual.ensures.1 in
+    rw (p.1, p.2) (c.in_err-stage.ensures, refl)
 
 pub loop-done-init : goal.loop-done-init
 loop-done-init g c =
-    let accepted = round_accepted _ _ _ (sym c.round_refusal.ensures ∙ c.in_default.is) in
-    running_starts _ _ _ c.args.allowance _ _ (omega (arith, accepted.1))
+    let few = accepted_few _ _ _ _ c.in_ok-stage.ensures in
+    running_starts _ _ _ c.args.allowance _ _ (omega arith)
 
 pub overflow_add-struck : goal.overflow_add-struck
 overflow_add-struck g c =
@@ -23,19 +26,14 @@ overflow_add-struck g c =
 pub loop-done-preserved : goal.loop-done-preserved
 loop-done-preserved g c =
     running_more _ _ _ (g.met.A.System.bounded _) (g.met.B.System.bounded _) c.args.allowance _ _ c.loop-done.invariant _ _ _
-    (omega arith) (not-true _ c.if-not-stage.true) (omega arith) c.advance-more.ensures.stage c.advance-more.ensures.struck c.advance-more.ensures.cells
+    (omega arith) c.if-stage.false (omega arith) c.advance-more.ensures.stage c.advance-more.ensures.struck c.advance-more.ensures.cells
 
-pub returns-else-stage-lt-MOST_ROUNDS : goal.returns-else-stage-lt-MOST_ROUNDS
-returns-else-stage-lt-MOST_ROUNDS g c =
-    run_answers _ _ _ (g.met.A.System.bounded _) (g.met.B.System.bounded _) _ _ _ _ (sym c.round_refusal.ensures ∙ c.in_default.is) c.loop-done.invariant
-    (inr (or_right c.loop-done.stage.still _ (le-leb 4097 _ (omega arith))))
+pub returns-then-stage : goal.returns-then-stage
+returns-then-stage g c =
+    run_answers _ _ _ (g.met.A.System.bounded _) (g.met.B.System.bounded _) _ _ _ _ _ c.in_ok-stage.ensures c.loop-done.invariant
+    (inr (elim c.then-stage.either [ inl still ↦ or_left _ _ still | inr spent ↦ or_right c.loop-done.stage.still _ (le-leb 4097 _ spent.1) ]))
 
-pub returns-else-not-stage : goal.returns-else-not-stage
-returns-else-not-stage g c =
-    run_answers _ _ _ (g.met.A.System.bounded _) (g.met.B.System.bounded _) _ _ _ _ (sym c.round_refusal.ensures ∙ c.in_default.is) c.loop-done.invariant
-    (inr (or_left c.loop-done.stage.still _ (not-false _ c.if-not-stage.false)))
-
-pub returns-after-loop-done : goal.returns-after-loop-done
-returns-after-loop-done g c =
-    run_answers _ _ _ (g.met.A.System.bounded _) (g.met.B.System.bounded _) _ _ _ _ (sym c.round_refusal.ensures ∙ c.in_default.is) c.loop-done.invariant
-    (inl (omega arith))
+pub returns : goal.returns
+returns g c =
+    let all : c.loop-done.done ≡ c.args.allowance = omega arith in
+    run_answers _ _ _ (g.met.A.System.bounded _) (g.met.B.System.bounded _) _ _ _ _ _ c.in_ok-stage.ensures (rw all at c.loop-done.invariant) (inl refl)

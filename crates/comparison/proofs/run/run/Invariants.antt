@@ -1,4 +1,3 @@
-use Rattle.std.proofs.Common.{◌-◌}
 use Rattle.comparison.proofs.Running.{Running}
 use Rattle.comparison.proofs.run.run.Given as goal
 
@@ -7,6 +6,3 @@ invariant-loop-done g l =
     Running g.L.Label.below (g.A.System.meaning l.first) (g.B.System.meaning l.second) l.allowance
     (record { stage = l.initial.stage; sheet = l.initial.sheet; done = 0; struck = 0 })
     (record { stage = l.stage; sheet = l.sheet; done = l.done; struck = l.struck })
-
-abbrev pub decreases-loop-done : goal.decreases-loop-done
-decreases-loop-done g l = l.allowance - l.done

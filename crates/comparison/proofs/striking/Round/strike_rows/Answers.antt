@@ -10,7 +10,7 @@ use Rattle.comparison.specs.Sheet.{blank_strike, cells_of}
 use Rattle.comparison.proofs.Counts.{count-row, pairs_few}
 use Rattle.systems.proofs.Cells.{get_or-written_past}
 use Rattle.comparison.proofs.Rows.{laid_none, laid_more}
-use Rattle.comparison.proofs.striking.strike_rows.Goals as goal
+use Rattle.comparison.proofs.striking.Round.strike_rows.Goals as goal
 
 module _ {L : Type 0} (m n : Meaning L) (R : Relation) (k : ℕ) (before : List Strike) where
   -- the first rows
@@ -45,7 +45,7 @@ loop-p-preserved g c = one_more_row _ _ _ _ _ _ _ _ _ _ c.loop-p.invariant c.str
 pub overflow_add-struck : goal.overflow_add-struck
 overflow_add-struck g c =
     let done = one_more_row _ _ _ _ _ _ _ _ _ _ c.loop-p.invariant c.strike_row-struck.ensures.struck c.strike_row-struck.ensures.cells in
-    let few = pairs_few _ (c.loop-p.p + 1) _ _ done.0 (omega (arith, (g.met.A.System.bounded c.args.first.now).few_states)) (g.met.B.System.bounded c.args.second.now).few_states in
+    let few = pairs_few _ (c.loop-p.p + 1) _ _ done.0 (omega (arith, (g.met.A.System.bounded c.args.self.now.first.now).few_states)) (g.met.B.System.bounded c.args.self.now.second.now).few_states in
     omega arith
 
 pub returns : goal.returns

@@ -9,8 +9,8 @@ use Rattle.comparison.specs.Search.{row_filled, strike_for, strike_over, strikes
 use Rattle.comparison.specs.Sheet.{blank_strike, cells_of}
 use Rattle.comparison.proofs.Counts.{count_more, count_same, count_few}
 use Rattle.comparison.proofs.Rows.{row_filled_none, row_filled_more, row_filled_kept}
-use Rattle.comparison.proofs.striking.strike_row.Goals as goal
-use Rattle.comparison.proofs.striking.strike_row.Goals.{in-Some, in_default}
+use Rattle.comparison.proofs.striking.Round.strike_row.Goals as goal
+use Rattle.comparison.proofs.striking.Round.strike_row.Goals.{in-Some, in_default}
 
 struck_some : (k : ℕ) (o : Option Why) (s : Strike) → strike_for k o ≡ Some s → is_some o ≡ true
 unfolding strike_for
