@@ -1,10 +1,10 @@
 -- What a layer on both sides makes of the prebisimulations.
-use Rattle.std.proofs.Common.{◌≡◌, ℕ, ◌<◌, ◌≤◌, Bool, false, ◌&&◌, ltb, ◌⊎◌, refl, inl, inr, arith}
+use Rattle.std.proofs.Common.{◌≡◌, ℕ, ◌<◌, ◌≤◌, Bool, false, ◌&&◌, ltb, ◌⊎◌, inl, inr, arith}
 use Rattle.std.proofs.lemmas.Bool.{both_ways, lt-ltb, le-ltb, and_from, and_right, cases_lt}
 use Rattle.systems.specs.Meaning.{Meaning}
 use Rattle.preorder.specs.Prebisimulation.{Relation, Prebisimulation}
-use Rattle.views.specs.Layers.{marked, present, all_open, all_closed}
-use Rattle.views.specs.Simulation.{Simulation, Bisimulation, Layered}
+use Rattle.views.specs.Layers.{marked, present, all_open}
+use Rattle.views.specs.Simulation.{Simulation, Layered}
 
 -- of a prebisimulation, whatever the marks
 module _ {L : Type 0} (below : L → L → Bool) (m n : Meaning L) (R : Relation) where
@@ -40,20 +40,3 @@ open_law below m n R bm bn same = (
 
     gone : {a k : ℕ} → k ≤ a → a < k → ⊥
     gone h l = omega arith
-
-pub closed_law : {L : Type 0} (below : L → L → Bool) → Layered below all_closed Bisimulation
-closed_law below m n R bm bn same = (
-  λ b. record {
-    simulation = simulates below m n R _ _ b;
-    back = λ p q a u r. (b.transfers p q r).back a u refl;
-  },
-  λ b. record {
-    present = b.simulation.present;
-    transfers = λ p q r. record {
-      labels = b.simulation.labels p q r;
-      forth = λ a t. b.simulation.forth p q a t r;
-      closed = λ a e. refl;
-      back = λ a u e. b.back p q a u r;
-    };
-  },
-)

@@ -1,18 +1,10 @@
--- Tests that pass in the same cases, and how many numbers pass a test.
+-- How many numbers pass a test.
 use Rattle.std.specs.Prelude.{◌≡◌, ℕ, zero, suc, ◌+◌, ◌<◌, ◌≤◌, Bool, true, false, cond, ◌⊎◌, refl}
 use Rattle.std.proofs.Common.{sym, subst, ◌∙◌, inl, inr}
 use Rattle.std.proofs.Math.Path.{ap}
 use native.Mathlib.Omega.{arith}
 use Rattle.std.proofs.lemmas.Bool.{cases_lt}
 use Rattle.systems.specs.Sets.{count}
-
--- two tests that pass in the same cases are equal
-pub same_tests : (x y : Bool) → (x ≡ true → y ≡ true) → (y ≡ true → x ≡ true) → x ≡ y
-same_tests true y h k = sym (h refl)
-same_tests false true h k = k refl
-same_tests false false h k = refl
-
--- ---- how many pass a test
 
 cond_mono : (x y : Bool) → (x ≡ true → y ≡ true) → cond x 1 0 ≤ cond y 1 0
 cond_mono true y h = subst (λ b. 1 ≤ cond b 1 0) (sym (h refl)) (omega arith)

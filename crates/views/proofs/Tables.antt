@@ -8,7 +8,7 @@ use Rattle.std.proofs.lemmas.Bool.{cases_lt, lt-ltb, le-ltb, ltb-true, leb-true,
 use Rattle.systems.specs.Meaning.{Meaning, Bounded}
 use Rattle.systems.specs.Sets.{has, set_of}
 use Rattle.systems.proofs.Sets.{has-set_of}
-use Rattle.views.proofs.Masks.{same_tests}
+use Rattle.std.proofs.lemmas.Bool.Decides.{same_from_decides}
 use Rattle.views.specs.declared.sheets.Shape.{Shape}
 use Rattle.systems.proofs.Cells.{get_or-written}
 use Rattle.views.specs.Tabled.{room, Tables, Tabulates, move_sheet, mark_sheet, label_sheet, by_sheets}
@@ -53,20 +53,22 @@ module _ {L : Type 0} (m : Meaning L) (plain : L) (s : Shape) (moves marks : Lis
 module _ {L : Type 0} (m : Meaning L) (bounded : Bounded m) (plain : L) (s : Shape) (moves marks : List ℕ) (labels : List L) (held : Tables m plain s moves marks labels) where
   same_moves : (p a t : ℕ) → (by_sheets plain s moves marks labels).moves p a t ≡ m.moves p a t
   same_moves p a t =
-      same_tests _ (m.moves p a t)
-      (λ e.
-      let (x, y) = and_parts _ _ e in
-      let (p<, a<) = and_parts (nat_lt p s.states) _ x in
-      let (t<, in_Cell) = and_parts (nat_lt t s.states) _ y in
-      let hp = ltb-true p s.states p< in
-      let ha = ltb-true a s.actions a< in
-      let ht = ltb-true t s.states t< in
-      sym (cell (omega (arith, held.states)) (omega (arith, held.actions)) (omega (arith, held.states, bounded.few_states))) ∙ in_Cell)
-      (λ e.
-      let (hp, ha, ht) = bounded.moves_present p a t e in
-      and_from _ _
-      (and_from _ _ (lt-ltb p s.states (omega (arith, held.states))) (lt-ltb a s.actions (omega (arith, held.actions))))
-      (and_from _ _ (lt-ltb t s.states (omega (arith, held.states))) (cell hp ha (omega (arith, bounded.few_states)) ∙ e)))
+      same_from_decides _ (m.moves p a t) (
+        λ e.
+            let (x, y) = and_parts _ _ e in
+            let (p<, a<) = and_parts (nat_lt p s.states) _ x in
+            let (t<, in_Cell) = and_parts (nat_lt t s.states) _ y in
+            let hp = ltb-true p s.states p< in
+            let ha = ltb-true a s.actions a< in
+            let ht = ltb-true t s.states t< in
+            sym (cell (omega (arith, held.states)) (omega (arith, held.actions)) (omega (arith, held.states, bounded.few_states))) ∙ in_Cell,
+        λ e.
+            let (hp, ha, ht) = bounded.moves_present p a t e in
+            and_from _ _
+            (and_from _ _ (lt-ltb p s.states (omega (arith, held.states))) (lt-ltb a s.actions (omega (arith, held.actions))))
+            (and_from _ _ (lt-ltb t s.states (omega (arith, held.states))) (cell hp ha (omega (arith, bounded.few_states)) ∙ e)),
+      )
+      (λ e. e, λ e. e)
     where
       cell : p < m.states → a < m.actions → t < 64 → has (slice_index moves (p * s.actions + a)) t ≡ m.moves p a t
       cell hp ha ht =
@@ -75,17 +77,19 @@ module _ {L : Type 0} (m : Meaning L) (bounded : Bounded m) (plain : L) (s : Sha
 
   same_marks : (p a : ℕ) → (by_sheets plain s moves marks labels).marks p a ≡ m.marks p a
   same_marks p a =
-      same_tests _ (m.marks p a)
-      (λ e.
-      let (p<, y) = and_parts (nat_lt p s.states) _ e in
-      let (a<, in_Cell) = and_parts (nat_lt a s.actions) _ y in
-      let hp = ltb-true p s.states p< in
-      let ha = ltb-true a s.actions a< in
-      sym (cell (omega (arith, held.states)) (omega (arith, held.actions, bounded.few_actions))) ∙ in_Cell)
-      (λ e.
-      let (hp, ha) = bounded.marks_present p a e in
-      and_from _ _ (lt-ltb p s.states (omega (arith, held.states)))
-      (and_from _ _ (lt-ltb a s.actions (omega (arith, held.actions))) (cell hp (omega (arith, bounded.few_actions)) ∙ e)))
+      same_from_decides _ (m.marks p a) (
+        λ e.
+            let (p<, y) = and_parts (nat_lt p s.states) _ e in
+            let (a<, in_Cell) = and_parts (nat_lt a s.actions) _ y in
+            let hp = ltb-true p s.states p< in
+            let ha = ltb-true a s.actions a< in
+            sym (cell (omega (arith, held.states)) (omega (arith, held.actions, bounded.few_actions))) ∙ in_Cell,
+        λ e.
+            let (hp, ha) = bounded.marks_present p a e in
+            and_from _ _ (lt-ltb p s.states (omega (arith, held.states)))
+            (and_from _ _ (lt-ltb a s.actions (omega (arith, held.actions))) (cell hp (omega (arith, bounded.few_actions)) ∙ e)),
+      )
+      (λ e. e, λ e. e)
     where
       cell : p < m.states → a < 32 → has (slice_index marks p) a ≡ m.marks p a
       cell hp ha = ap (λ n. has n a) (held.marks_held p hp) ∙ has-set_of 32 (m.marks p) a ha

@@ -1,13 +1,14 @@
 -- The weak view, as the code answers for it.
-use Rattle.std.specs.Prelude.{◌≡◌, ℕ, ◌^◌, ◌<◌, Bool, false, cond, ◌&&◌, ◌||◌, ltb, List, ◌≢◌, bit_and, nat_lt, slice_index}
+use Rattle.std.specs.Prelude.{◌≡◌, ℕ, ◌^◌, ◌<◌, Bool, true, false, cond, ◌&&◌, ◌||◌, ltb, List, ◌≢◌, bit_and, nat_lt, slice_index}
 use Rattle.std.proofs.Math.Path.{sym, ap, ap₂}
 use Rattle.std.proofs.Common.{subst, ◌∙◌, arith}
+use Rattle.std.proofs.Math.Bool.{and-true}
 use Rattle.std.proofs.lemmas.Bool.{lt-ltb, eq-eqb, ne_eqb, and_parts, and_from}
 use Rattle.std.proofs.lemmas.Bool.Decides.{Decides-at}
 use Rattle.systems.specs.Meaning.{Meaning, Bounded}
-use Rattle.systems.specs.Sets.{has, set_of}
-use Rattle.systems.proofs.Sets.{has-set_of, set_of_cong, set_of-has, set_of_lt, set_of_meet, guarded_true, guarded_false, some_cong, some_within}
-use Rattle.views.specs.Weak.{overlap, leads, silent_rows, diverging, comes, view_moves, opens, view_marks, view_over, WeakView}
+use Rattle.systems.specs.Sets.{has, set_of, some_of}
+use Rattle.systems.proofs.Sets.{has-set_of, set_of_cong, set_of-has, set_of_lt, set_of_meet, guarded_true, some_cong, some_within}
+use Rattle.views.specs.Weak.{in_rows, overlap, leads, silent_rows, diverging, comes, view_moves, opens, view_marks, view_over, WeakView}
 use Rattle.views.specs.Bounds.{moves_within}
 use Rattle.views.proofs.Rows.{row-silent}
 use Rattle.views.proofs.Silence.{silent_decides, diverging_decides, view_correct}
@@ -15,7 +16,7 @@ use Rattle.views.proofs.Silence.{silent_decides, diverging_decides, view_correct
 module _ {L : Type 0} (m : Meaning L) (bounded : Bounded m) where
   module _ (rows : List ℕ) where
     abbrev row : ℕ → ℕ → Bool
-    row q = has (slice_index rows q)
+    row = in_rows rows
 
     pub comes-silent : (p a : ℕ) → slice_index rows p < 2 ^ 64 → a ≡ 0 → slice_index rows p ≡ set_of 64 (comes m row p a)
     unfolding comes
@@ -40,26 +41,28 @@ module _ {L : Type 0} (m : Meaning L) (bounded : Bounded m) where
         ∙ set_of_cong 64 _ _ (λ t l. ap₂ (λ k b. nat_lt t k && b) same (ap (λ x. has x t) e ∙ has-set_of 64 (comes m row p a) t l))
         ∙ sym (guarded_true 64 _ _ (and_from _ _ (lt-ltb p m.states p<) (lt-ltb a m.actions a<)))
 
-    pub moves_absent : (p a : ℕ) → (nat_lt p m.states && nat_lt a m.actions) ≡ false → 0 ≡ set_of 64 (view_moves m row p a)
-    unfolding view_moves
-    moves_absent p a e = sym (guarded_false 64 _ _ e)
+    -- of a state that does not diverge itself, by the states that it moves to in the view
+    pub marks_found : (set p n : ℕ) → n ≡ m.actions → p < m.states → has set p ≡ false
+        → set_of 32 (λ a. nat_lt a n && overlap (set_of 64 (view_moves m row p a)) set) ≡ set_of 32 (view_marks m row (has set) p)
+    unfolding view_marks opens
+    marks_found set p n same p< ends =
+        ap (λ k. set_of 32 (λ a. nat_lt a k && overlap (set_of 64 (view_moves m row p a)) set)) same
+        ∙ set_of_cong 32 _ _ (λ a h. ap (◌&&◌ (nat_lt a m.actions)) (onward a ∙ ap (λ b. b || some_of m.states (λ t. view_moves m row p a t && has set t)) (sym ends)))
+        ∙ sym (guarded_true 32 _ _ (lt-ltb p m.states p<))
+      where
+        onward : (a : ℕ) → overlap (set_of 64 (view_moves m row p a)) set ≡ some_of m.states (λ t. view_moves m row p a t && has set t)
+        onward a =
+            some_cong 64 _ (λ t. view_moves m row p a t && has set t) (λ t l. ap (λ b. b && has set t) (has-set_of 64 (view_moves m row p a) t l))
+            ∙ some_within m.states 64 _ bounded.few_states (λ t k. (moves_within m bounded row p a t (and_parts _ _ k).0).2)
 
-    pub opens-found : (set p a : ℕ) → (has set p || overlap (set_of 64 (view_moves m row p a)) set) ≡ opens m row (has set) p a
-    unfolding opens
-    opens-found set p a =
-        ap (λ b. has set p || b)
-        (some_cong 64 _ (λ t. view_moves m row p a t && has set t) (λ t l. ap (λ b. b && has set t) (has-set_of 64 (view_moves m row p a) t l))
-        ∙ some_within m.states 64 _ bounded.few_states (λ t k. (moves_within m bounded row p a t (and_parts _ _ k).0).2))
-
-    pub marks_found : (set p n : ℕ) → n ≡ m.actions → p < m.states
-        → set_of 32 (λ a. nat_lt a n && opens m row (has set) p a) ≡ set_of 32 (view_marks m row (has set) p)
-    unfolding view_marks
-    marks_found set p n same p< =
-        ap (λ k. set_of 32 (λ a. nat_lt a k && opens m row (has set) p a)) same ∙ sym (guarded_true 32 _ _ (lt-ltb p m.states p<))
-
-    pub marks_absent : (set p : ℕ) → nat_lt p m.states ≡ false → 0 ≡ set_of 32 (view_marks m row (has set) p)
-    unfolding view_marks
-    marks_absent set p e = sym (guarded_false 32 _ _ e)
+    -- and of one that does, all
+    pub marks_all : (set p n : ℕ) → n ≡ m.actions → p < m.states → has set p ≡ true → set_of 32 (λ a. nat_lt a n) ≡ set_of 32 (view_marks m row (has set) p)
+    unfolding view_marks opens
+    marks_all set p n same p< on =
+        ap (λ k. set_of 32 (λ a. nat_lt a k)) same
+        ∙ set_of_cong 32 _ _ (λ a h. sym (and-true (nat_lt a m.actions))
+        ∙ ap (λ b. nat_lt a m.actions && (b || some_of m.states (λ t. view_moves m row p a t && has set t))) (sym on))
+        ∙ sym (guarded_true 32 _ _ (lt-ltb p m.states p<))
 
     -- with the rows of silent closures and the set of the diverging states the view is the weak view
     pub view_is_weak : (set : ℕ) → rows ≡ silent_rows m → set ≡ set_of 64 (diverging m) → WeakView m (view_over m rows set)

@@ -4,7 +4,7 @@ use Rattle.systems.specs.Meaning.{Meaning}
 
 -- the system m with the marks f
 abbrev pub marked : {L : Type 0} → Meaning L → (ℕ → ℕ → Bool) → Meaning L
-marked m f = record { states = m.states; actions = m.actions; start = m.start; moves = m.moves; marks = f; label = m.label }
+marked m f = record m { marks = f }
 
 -- state p and action a are present
 unfoldable pub present : ℕ → ℕ → ℕ → ℕ → Bool

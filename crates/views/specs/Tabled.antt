@@ -6,8 +6,7 @@ use Rattle.systems.specs.Sets.{has, set_of}
 use Rattle.views.specs.declared.refusal.Refusal.{Refusal}
 use Rattle.views.specs.declared.refusal.Refusal.TheVariants.{SheetShort}
 use Rattle.views.specs.declared.sheets.Shape.{Shape}
-use Rattle.views.specs.declared.tabled.Table.{Table}
-use Rattle.std.specs.Borrow.{Bor}
+use Rattle.views.specs.declared.tabled.Tabled.{Tabled}
 
 -- whether sheets of these lengths have a cell of moves for each state and action, and of marks and of labels for each state
 abbrev pub room : ℕ → ℕ → ℕ → ℕ → ℕ → Bool
@@ -54,10 +53,6 @@ by_sheets plain s moves marks labels = record {
   marks = λ p a. nat_lt p s.states && (nat_lt a s.actions && has (slice_index marks p) a);
   label = λ p. slice_index_or labels (cond (nat_lt p s.states) p s.start) plain;
 }
-
--- a tabled system over lent sheets
-abbrev pub Tabled : Type 0 → Type 0
-Tabled L = Table (Bor (List ℕ)) (Bor (List ℕ)) (Bor (List L))
 
 -- The tabled system t stands over just this shape and these sheets.
 pub record Over {L : Type 0} (plain : L) (shape : Shape) (moves marks : List ℕ) (labels : List L) (t : Tabled L) : Type 0 where

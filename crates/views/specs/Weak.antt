@@ -1,5 +1,5 @@
 -- The weak view of a system: action 0 is silent, and in the view its place is taken by any number of silent moves.
-use Rattle.std.specs.Prelude.{◌≡◌, ℕ, zero, suc, ◌<◌, Bool, true, cond, ◌&&◌, ◌||◌, ◌⊎◌, List, replicate, Decides, ◌==◌, nat_lt, slice_index}
+use Rattle.std.specs.Prelude.{◌≡◌, ℕ, zero, suc, ◌<◌, Bool, true, cond, ◌&&◌, ◌||◌, ◌⊎◌, List, length, replicate, bit_or, Decides, ◌==◌, nat_lt, slice_index}
 use Rattle.systems.specs.Cells.{written}
 use Rattle.systems.specs.Meaning.{Meaning}
 use Rattle.systems.specs.Sets.{has, set_of, some_of}
@@ -40,6 +40,15 @@ overlap x y = some_of 64 (λ i. has x i && has y i)
 -- some number below n that passes x is related to t
 unfoldable pub leads : ℕ → (ℕ → Bool) → (ℕ → ℕ → Bool) → ℕ → Bool
 leads n x r t = some_of n (λ q. x q && r q t)
+
+-- t is in row p of a table of sets
+abbrev pub in_rows : List ℕ → ℕ → ℕ → Bool
+in_rows rows p = has (slice_index rows p)
+
+-- the rows let through number k too: each row that has k is joined by the row of k
+pub record Passed (rows : List ℕ) (k : ℕ) (after : List ℕ) : Type 0 where
+  pub long : length after ≡ 64
+  pub each : (p : ℕ) → p < 64 → slice_index after p ≡ cond (in_rows rows p k) (bit_or (slice_index rows p) (slice_index rows k)) (slice_index rows p)
 
 module _ {L : Type 0} (m : Meaning L) where
   -- p comes to t by silent moves that pass only through states below k
@@ -82,15 +91,8 @@ module _ {L : Type 0} (m : Meaning L) where
   view_marks c d p a = nat_lt p m.states && (nat_lt a m.actions && opens c d p a)
 
   abbrev pub view_by : (ℕ → ℕ → Bool) → (ℕ → Bool) → Meaning L
-  view_by c d = record {
-    states = m.states;
-    actions = m.actions;
-    start = m.start;
-    moves = view_moves c;
-    marks = view_marks c d;
-    label = m.label;
-  }
+  view_by c d = record m { moves = view_moves c; marks = view_marks c d }
 
   -- the view by a table of rows and a set of states, whatever they hold
   abbrev pub view_over : List ℕ → ℕ → Meaning L
-  view_over rows set = view_by (λ p. has (slice_index rows p)) (has set)
+  view_over rows set = view_by (in_rows rows) (has set)

@@ -1,73 +1,106 @@
-// The open layer and the closed layer: the system below with every mark set, and with none.
-ghost use Rattle.views.specs.Layers.{all_open, all_closed, present};
+// A layer: the system below it with other marks. The open layer sets every mark, the closed layer none.
+ghost use Rattle.std.specs.Prelude.{◌≡◌, ℕ, ◌<◌, Bool, true, false};
+ghost use Rattle.systems.specs.Sets.{set_of};
+ghost use Rattle.views.specs.Layers.{marked, present};
+ghost use Rattle.views.specs.Bounds.{marked_bounded, present_within};
 ghost use Rattle.std.proofs.Common.{rules};
 
-use crate::sets;
+use crate::sets::actions_below;
+use std::marker::PhantomData;
 use systems::label::Label;
 use systems::system::System;
 
-#[derive(Drop)]
-pub struct AllOpen<S>(pub S);
+// Which marks a layer sets in a system, by its counts.
+pub trait Marking {
+    // whether state p is open on action a
+    ghost is_open: { ℕ → ℕ → ℕ → ℕ → Bool };
 
-impl<L: Label, S: System<L>> System<L> for AllOpen<S> {
-    ghost meaning = { λ s. all_open (S.System.meaning s.0) };
+    // the set of the actions that p is open on
+    fn open_on(states: u8, actions: u8, p: u8) -> u32
+        ensures { result ≡ set_of 32 (is_open states actions p) };
 
-    ghost bounded = { unfold present in λ s. let b = S.System.bounded s.0 in Prim.search rules };
+    ghost within: { (states actions p a : ℕ) → is_open states actions p a ≡ true → (p < states) × (a < actions) };
+}
 
-    fn states(&self) -> u8 {
-        self.0.states()
+// Every present state is open on every present action.
+#[derive(Clone, Copy)]
+pub struct EveryMark;
+
+// No state is open on any action.
+#[derive(Clone, Copy)]
+pub struct NoMark;
+
+impl Marking for EveryMark {
+    ghost is_open = { present };
+
+    ghost within = { present_within };
+
+    fn open_on(states: u8, actions: u8, p: u8) -> u32 {
+        if p < states {
+            actions_below(actions)
+        } else {
+            0
+        }
     }
+}
 
-    fn actions(&self) -> u8 {
-        self.0.actions()
-    }
+impl Marking for NoMark {
+    ghost is_open = { λ states actions p a. false };
 
-    fn start(&self) -> u8 {
-        self.0.start()
-    }
+    ghost within = { Prim.search rules };
 
-    fn reach(&self, p: u8, a: u8) -> u64 {
-        self.0.reach(p, a)
-    }
-
-    fn open_on(&self, p: u8) -> u32 {
-        sets::all_actions(self.0.states(), self.0.actions(), p)
-    }
-
-    fn label(&self, p: u8) -> L {
-        self.0.label(p)
+    fn open_on(_states: u8, _actions: u8, _p: u8) -> u32 {
+        0
     }
 }
 
 #[derive(Drop)]
-pub struct AllClosed<S>(pub S);
+pub struct Layer<S, M> {
+    pub below: S,
+    marking: PhantomData<M>,
+}
 
-impl<L: Label, S: System<L>> System<L> for AllClosed<S> {
-    ghost meaning = { λ s. all_closed (S.System.meaning s.0) };
+pub type AllOpen<S> = Layer<S, EveryMark>;
 
-    ghost bounded = { Prim.search rules };
+pub type AllClosed<S> = Layer<S, NoMark>;
+
+impl<S, M> Layer<S, M> {
+    pub fn over(below: S) -> Self
+        ensures { result.below ≡ below }
+    {
+        Layer {
+            below,
+            marking: PhantomData,
+        }
+    }
+}
+
+impl<L: Label, S: System<L>, M: Marking> System<L> for Layer<S, M> {
+    ghost meaning = { λ s. let m = S.System.meaning s.below in marked m (M.is_open m.states m.actions) };
+
+    ghost bounded = { λ s. let m = S.System.meaning s.below in marked_bounded m (S.System.bounded s.below) _ (M.within m.states m.actions) };
 
     fn states(&self) -> u8 {
-        self.0.states()
+        self.below.states()
     }
 
     fn actions(&self) -> u8 {
-        self.0.actions()
+        self.below.actions()
     }
 
     fn start(&self) -> u8 {
-        self.0.start()
+        self.below.start()
     }
 
     fn reach(&self, p: u8, a: u8) -> u64 {
-        self.0.reach(p, a)
+        self.below.reach(p, a)
     }
 
-    fn open_on(&self, _p: u8) -> u32 {
-        0
+    fn open_on(&self, p: u8) -> u32 {
+        M::open_on(self.below.states(), self.below.actions(), p)
     }
 
     fn label(&self, p: u8) -> L {
-        self.0.label(p)
+        self.below.label(p)
     }
 }

@@ -1,7 +1,6 @@
 // Sets of actions, as the views ask for them.
 ghost use Rattle.std.specs.Prelude.{◌≡◌, nat_lt};
 ghost use Rattle.systems.specs.Sets.{set_of};
-ghost use Rattle.views.specs.Layers.{present};
 
 use systems::masks::{all_below, as_actions};
 
@@ -10,15 +9,4 @@ pub fn actions_below(n: u8) -> u32
     ensures { result ≡ set_of 32 (λ i. nat_lt i n) }
 {
     as_actions(all_below(n))
-}
-
-// all actions, where p is present
-pub fn all_actions(states: u8, actions: u8, p: u8) -> u32
-    ensures { result ≡ set_of 32 (present states actions p) }
-{
-    if p < states {
-        actions_below(actions)
-    } else {
-        0
-    }
 }

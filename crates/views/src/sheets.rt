@@ -1,25 +1,6 @@
-// Lent sheets, and the counts and the start of a tabled system.
-ghost use Rattle.std.specs.Prelude.{◌≡◌, ◌<◌, ◌≤◌, List, slice_index_or};
-
-use systems::sheet::cell_or;
-
-// A row of cells that can be looked up. The tabled system is written over this trait, and the lifetime of a lent sheet stands in the
-// one impl below.
-pub trait Sheet<T: Copy> {
-    ghost cells: { Self → List T };
-
-    // cell i, or what is given for past the end
-    fn at(&self, i: usize, past: T) -> T
-        ensures { result ≡ slice_index_or (cells self.now) i past };
-}
-
-impl<'a, T: Copy> Sheet<T> for &'a [T] {
-    ghost cells = { λ s. s.now };
-
-    fn at(&self, i: usize, past: T) -> T {
-        cell_or(self, i, past)
-    }
-}
+// The counts and the start of a tabled system, which its sheets do not hold. They are within bounds; a header of `filing` is what bytes
+// say, and is within bounds only once it is accepted.
+ghost use Rattle.std.specs.Prelude.{◌<◌, ◌≤◌};
 
 #[derive(Clone, Copy)]
 pub struct Shape {

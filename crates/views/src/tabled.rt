@@ -1,13 +1,14 @@
 // Tabulating a system onto lent sheets, and the system that sheets stand for: every question is one look-up.
-ghost use Rattle.std.specs.Prelude.{◌≡◌, ◌*◌, ◌≤◌, length};
-ghost use Rattle.views.specs.Tabled.{room, move_sheet, mark_sheet, label_sheet, Tabulates, by_sheets, Over};
+ghost use Rattle.std.specs.Prelude.{◌≡◌, length};
+ghost use Rattle.views.specs.Tabled.{room, Tabulates, by_sheets, Over};
 ghost use Rattle.std.proofs.Common.{rules};
 
 use crate::refusal::Refusal;
-use crate::sets;
-use crate::sheets::{Shape, Sheet};
+use crate::sets::actions_below;
+use crate::sheets::Shape;
 use systems::label::Label;
 use systems::masks::all_below;
+use systems::sheet::{cell_or, write_first};
 use systems::system::System;
 
 fn has_room<L>(shape: &Shape, moves: &[u64], marks: &[u32], labels: &[L]) -> bool
@@ -18,35 +19,8 @@ fn has_room<L>(shape: &Shape, moves: &[u64], marks: &[u32], labels: &[L]) -> boo
         && (states <= marks.len() && states <= labels.len())
 }
 
-fn write_moves<L: Label, S: System<L>>(system: &S, moves: &mut [u64])
-    requires { (S.System.meaning system.now).states * (S.System.meaning system.now).actions ≤ length moves.old }
-    ensures { moves.new ≡ move_sheet (S.System.meaning system.now) moves.old }
-{
-    let actions = system.actions() as usize;
-    for k in 0..system.states() as usize * actions {
-        moves[k] = system.reach((k / actions) as u8, (k % actions) as u8);
-    }
-}
-
-fn write_marks<L: Label, S: System<L>>(system: &S, marks: &mut [u32])
-    requires { (S.System.meaning system.now).states ≤ length marks.old }
-    ensures { marks.new ≡ mark_sheet (S.System.meaning system.now) marks.old }
-{
-    for p in 0..system.states() {
-        marks[p as usize] = system.open_on(p);
-    }
-}
-
-fn write_labels<L: Label, S: System<L>>(system: &S, labels: &mut [L])
-    requires { (S.System.meaning system.now).states ≤ length labels.old }
-    ensures { labels.new ≡ label_sheet (S.System.meaning system.now) labels.old }
-{
-    for p in 0..system.states() {
-        labels[p as usize] = system.label(p);
-    }
-}
-
-// Writes the tables of a system onto the sheets, and answers its counts and start. Cells past those needed stay.
+// Writes the tables of a system onto the sheets, and answers its counts and start. Cells past those needed stay. The sheets are lent and
+// three, each with cells of its own type.
 pub fn tabulate<L: Label, S: System<L>>(
     system: &S,
     moves: &mut [u64],
@@ -63,23 +37,25 @@ pub fn tabulate<L: Label, S: System<L>>(
     if !has_room(&shape, moves, marks, labels) {
         return Err(Refusal::SheetShort);
     }
-    write_moves(system, moves);
-    write_marks(system, marks);
-    write_labels(system, labels);
+    let states = shape.states as usize;
+    let actions = shape.actions as usize;
+    write_first(moves, states * actions, |k| {
+        system.reach((k / actions) as u8, (k % actions) as u8)
+    });
+    write_first(marks, states, |p| system.open_on(p as u8));
+    write_first(labels, states, |p| system.label(p as u8));
     Ok(shape)
 }
 
-// The system that a shape and three sheets stand for: a set of states for each state and action, a set of actions for
+// The system that a shape and three lent sheets stand for: a set of states for each state and action, a set of actions for
 // each state, and a label for each state.
 #[derive(Drop)]
-pub struct Table<M, K, N> {
+pub struct Tabled<'a, L> {
     pub(crate) shape: Shape,
-    pub(crate) moves: M,
-    pub(crate) marks: K,
-    pub(crate) labels: N,
+    pub(crate) moves: &'a [u64],
+    pub(crate) marks: &'a [u32],
+    pub(crate) labels: &'a [L],
 }
-
-pub type Tabled<'a, L> = Table<&'a [u64], &'a [u32], &'a [L]>;
 
 // The system that three lent sheets stand for, whatever they hold: cells that are not there count as empty.
 pub fn over<'a, L: Label>(
@@ -90,7 +66,7 @@ pub fn over<'a, L: Label>(
 ) -> Tabled<'a, L>
     ensures { Over L.Label.plain shape moves.now marks.now labels.now result }
 {
-    Table {
+    Tabled {
         shape,
         moves,
         marks,
@@ -98,8 +74,8 @@ pub fn over<'a, L: Label>(
     }
 }
 
-impl<L: Label, M: Sheet<u64>, K: Sheet<u32>, N: Sheet<L>> System<L> for Table<M, K, N> {
-    ghost meaning = { λ t. by_sheets L.Label.plain t.shape (M.Sheet.cells t.moves) (K.Sheet.cells t.marks) (N.Sheet.cells t.labels) };
+impl<'a, L: Label> System<L> for Tabled<'a, L> {
+    ghost meaning = { λ t. by_sheets L.Label.plain t.shape t.moves.now t.marks.now t.labels.now };
 
     ghost bounded = { Prim.search rules };
 
@@ -120,14 +96,14 @@ impl<L: Label, M: Sheet<u64>, K: Sheet<u32>, N: Sheet<L>> System<L> for Table<M,
             return 0;
         }
         let cell = p as usize * self.shape.actions as usize + a as usize;
-        self.moves.at(cell, 0) & all_below(self.shape.states)
+        cell_or(self.moves, cell, 0) & all_below(self.shape.states)
     }
 
     fn open_on(&self, p: u8) -> u32 {
         if p >= self.shape.states {
             return 0;
         }
-        self.marks.at(p as usize, 0) & sets::actions_below(self.shape.actions)
+        cell_or(self.marks, p as usize, 0) & actions_below(self.shape.actions)
     }
 
     fn label(&self, p: u8) -> L {
@@ -136,6 +112,6 @@ impl<L: Label, M: Sheet<u64>, K: Sheet<u32>, N: Sheet<L>> System<L> for Table<M,
         } else {
             self.shape.start
         };
-        self.labels.at(state as usize, L::unlabelled())
+        cell_or(self.labels, state as usize, L::unlabelled())
     }
 }

@@ -1,23 +1,16 @@
-use Rattle.std.proofs.Common.{◌&&◌, ltb, sym, ap, ◌∙◌, arith}
-use Rattle.systems.specs.Sets.{set_of}
-use Rattle.systems.proofs.Sets.{front_none, set_more}
-use Rattle.views.specs.Weak.{diverging}
-use Rattle.views.proofs.Rows.{diverging-found, diverging-all}
+use Rattle.std.proofs.Common.{rules, ◌≡◌, ◌∙◌, get_or, ℕ, Bool}
+use Rattle.systems.specs.Sets.{has, set_of}
+use Rattle.views.specs.Weak.{in_rows, overlap, leads, loops}
+use Rattle.views.proofs.Rows.{loops_found, diverging_found}
 use Rattle.views.proofs.closure.diverging_states.Goals as goal
-
-pub loop-p-init : goal.loop-p-init
-loop-p-init g c = sym (front_none 64 _)
-
-pub loop-p-preserved : goal.loop-p-preserved
-loop-p-preserved g c =
-    let m = g.S.System.meaning c.args.below.now in
-    let b = g.met.S.System.bounded c.args.below.now in
-    let p = c.loop-p.p in
-    c.insert_if-found.ensures
-    ∙ set_more 64 p _ (diverging m) _ c.loop-p.invariant
-    (c.meets.ensures ∙ diverging-found m b _ c.requires p _ (omega arith) c.looping-loops.ensures)
 
 pub returns : goal.returns
 returns g c =
     let m = g.S.System.meaning c.args.below.now in
-    c.loop-p.invariant ∙ ap (λ k. set_of 64 (λ j. ltb j k && diverging m j)) (omega arith) ∙ diverging-all m
+    let b = g.met.S.System.bounded c.args.below.now in
+    let rows = c.args.rows.now in
+    let n = c.states-states.result in
+    let loop : ℕ → Bool = λ t. has (set_of 64 (leads n (has (set_of 64 (m.moves t 0))) (in_rows rows))) t in
+    let diverge : ℕ → Bool = λ p. overlap (get_or rows p 0) c.set_where-loops.result in
+    let looping : c.set_where-loops.result ≡ set_of 64 (loops m) = c.set_where-loops.ensures loop (λ t b h p. search rules) ∙ loops_found m b rows c.requires n c.states-states.ensures in
+    c.set_where.ensures diverge (λ p b h q. search rules) ∙ diverging_found m b rows c.requires n c.states-states.ensures _ looping

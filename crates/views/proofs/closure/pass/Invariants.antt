@@ -1,10 +1,11 @@
-use Rattle.std.proofs.Common.{◌≡◌, suc}
-use Rattle.systems.specs.Sets.{set_of}
-use Rattle.systems.specs.Cells.{written}
-use Rattle.views.specs.Weak.{through, rows_through}
+use Rattle.std.proofs.Common.{◌≡◌, ℕ, ◌<◌, ◌≤◌, length, get_or, cond, bit_or}
+use Rattle.systems.specs.Sets.{has}
 use Rattle.views.proofs.closure.pass.Given as goal
 
-abbrev pub invariant-loop-p : goal.invariant-loop-p
-invariant-loop-p g l =
-    let m = g.S.System.meaning l.below in
-    l.rows ≡ written l.p (λ p. set_of 64 (through m (suc l.k) p)) (rows_through m l.k)
+abbrev pub invariant-loop-row : goal.invariant-loop-row
+invariant-loop-row l =
+    record {
+      long : length l.rows ≡ 64;
+      done : (p : ℕ) → p < l.row-index → get_or l.rows p 0 ≡ cond (has (get_or l.initial.rows p 0) l.k) (bit_or (get_or l.initial.rows p 0) l.via) (get_or l.initial.rows p 0);
+      left : (p : ℕ) → l.row-index ≤ p → get_or l.rows p 0 ≡ get_or l.initial.rows p 0;
+    }
