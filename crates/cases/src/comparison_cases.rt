@@ -1,54 +1,34 @@
 // Comparing: the small pairs, every refusal and what it leaves, and the largest sheet.
+use crate::filed::{A, B, BARE, filed, ranked};
 use comparison::closing::close;
 use comparison::opening::begin;
-use comparison::refusal::Refusal;
+use comparison::refusal::{Refusal, Refused};
 use comparison::round::round;
 use comparison::run::run;
 use comparison::settling::settle;
 use comparison::stage::{Open, Verdict};
 use comparison::strike::Strike;
 use filing::filed::Filed;
-use filing::filing::file;
 use std::test::Fail;
-use systems::kinds::{Permit, Rank};
+use systems::kinds::Permit;
 
-// A: 0 -1-> 1 -2-> 2; B: A with 0 -1-> 2; and A with state 0 open on 1
-const A: &[u8] = b"SY\x03\x03\x00\x00MV\x00\x01\x01MV\x01\x02\x02";
-
-const B: &[u8] = b"SY\x03\x03\x00\x00MV\x00\x01\x01MV\x00\x01\x02MV\x01\x02\x02";
-
+// A with state 0 open on 1
 const A_OPEN: &[u8] = b"SY\x03\x03\x00\x00MV\x00\x01\x01MV\x01\x02\x02OP\x00\x01";
 
-const BARE: &[u8] = b"SY\x01\x01\x00\x00";
-
 const RANK_1: &[u8] = b"SY\x01\x01\x00\x00LB\x00\x01\x00";
-
-fn ranked(bytes: &'static [u8]) -> Filed<'static, Rank> {
-    let mut place = Filed::lone();
-    let _ = file(bytes, 0, &mut place);
-    place
-}
-
-fn permitted(bytes: &'static [u8]) -> Filed<'static, Permit> {
-    let mut place = Filed::lone();
-    let _ = file(bytes, 0, &mut place);
-    place
-}
 
 // whether the verdict is yes, the rounds done and the pairs that they struck
 fn settled(
     first: &'static [u8],
     second: &'static [u8],
     sheet: &mut [Strike],
-) -> Result<(bool, u32, u32), u8> {
-    match settle(&ranked(first), &ranked(second), sheet) {
-        Ok(settled) => Ok((
-            matches!(settled.verdict, Verdict::Yes(_)),
-            settled.rounds,
-            settled.struck,
-        )),
-        Err(refusal) => Err(refusal.number()),
-    }
+) -> Result<(bool, u32, u32), Refusal> {
+    let settled = settle(&ranked(first), &ranked(second), sheet)?;
+    Ok((
+        matches!(settled.verdict, Verdict::Yes(_)),
+        settled.rounds,
+        settled.struck,
+    ))
 }
 
 #[test]
@@ -68,19 +48,13 @@ fn small_pairs(rt: HostRuntime) {
 
 // the cells that are blank
 fn unstruck(sheet: &[Strike]) -> usize {
-    let mut left = 0usize;
-    for cell in sheet {
-        if *cell == Strike::BLANK {
-            left = left.saturating_add(1);
-        }
-    }
-    left
+    sheet.iter().filter(|cell| **cell == Strike::BLANK).count()
 }
 
 #[test]
 fn permits_that_neither_contains(rt: HostRuntime) {
-    let first = permitted(b"SY\x01\x01\x00\x01LB\x00\x03\x00\x00\x00\x00\x00\x00\x00");
-    let second = permitted(b"SY\x01\x01\x00\x01LB\x00\x05\x00\x00\x00\x00\x00\x00\x00");
+    let first: Filed<Permit> = filed(b"SY\x01\x01\x00\x01LB\x00\x03\x00\x00\x00\x00\x00\x00\x00");
+    let second: Filed<Permit> = filed(b"SY\x01\x01\x00\x01LB\x00\x05\x00\x00\x00\x00\x00\x00\x00");
     let mut sheet = [Strike::BLANK; 1];
     assert!(rt;
         matches!(settle(&first, &second, &mut sheet), Ok(s) if matches!(s.verdict, Verdict::No(_)))
@@ -94,10 +68,14 @@ fn permits_that_neither_contains(rt: HostRuntime) {
 }
 
 // a run with an allowance, as (rounds, struck), with the comparison
-fn ran(comparison: Open, allowance: u32, sheet: &mut [Strike]) -> (Open, Result<(u32, u32), u8>) {
+fn ran(
+    comparison: Open,
+    allowance: u32,
+    sheet: &mut [Strike],
+) -> (Open, Result<(u32, u32), Refusal>) {
     match run(comparison, &ranked(A), &ranked(B), sheet, allowance) {
         Ok((next, answer)) => (next, Ok(answer)),
-        Err(refused) => (refused.comparison, Err(refused.refusal.number())),
+        Err(refused) => (refused.comparison, Err(refused.refusal)),
     }
 }
 
@@ -114,17 +92,15 @@ fn runs_answer_rounds_and_strikes(rt: HostRuntime) -> Result<(), Fail> {
     let (opened, five) = ran(opened, 5, &mut sheet);
     assert_eq!(rt; five, Ok((1, 0)));
     let (opened, more) = ran(opened, 1, &mut sheet);
-    assert_eq!(rt; more, Err(23));
+    assert_eq!(rt; more.map_err(u8::from), Err(23));
     assert_eq!(rt; opened.rounds(), 3);
     Ok(())
 }
 
-// the number of a refused closing, or whether it said yes
-fn closed(comparison: Open, sheet: &[Strike]) -> Result<bool, (u8, Open)> {
-    match close(comparison, sheet) {
-        Ok(verdict) => Ok(matches!(verdict, Verdict::Yes(_))),
-        Err(refused) => Err((refused.refusal.number(), refused.comparison)),
-    }
+// whether a closing said yes
+fn closed(comparison: Open, sheet: &[Strike]) -> Result<bool, Refused> {
+    let verdict = close(comparison, sheet)?;
+    Ok(matches!(verdict, Verdict::Yes(_)))
 }
 
 #[test]
@@ -134,15 +110,15 @@ fn a_bare_state_is_undecided_before_a_round(rt: HostRuntime) -> Result<(), Fail>
     let Ok(opened) = begin(&bare, &bare, &mut sheet) else {
         return Err(Fail::new("not opened"));
     };
-    let Err((undecided, opened)) = closed(opened, &sheet) else {
+    let Err(undecided) = closed(opened, &sheet) else {
         return Err(Fail::new("decided"));
     };
-    assert_eq!(rt; undecided, 24);
-    let Err((short, opened)) = closed(opened, &sheet[0..0]) else {
+    assert_eq!(rt; u8::from(undecided.refusal), 24);
+    let Err(short) = closed(undecided.comparison, &sheet[0..0]) else {
         return Err(Fail::new("decided"));
     };
-    assert_eq!(rt; short, 22);
-    let Ok((still, struck)) = round(opened, &bare, &bare, &mut sheet) else {
+    assert_eq!(rt; u8::from(short.refusal), 22);
+    let Ok((still, struck)) = round(short.comparison, &bare, &bare, &mut sheet) else {
         return Err(Fail::new("refused"));
     };
     assert_eq!(rt; struck, 0);
@@ -169,8 +145,8 @@ fn openings_are_refused(rt: HostRuntime) {
         action: 2,
         target: 3,
     }; 8];
-    assert_eq!(rt; settled(A, BARE, &mut sheet), Err(20));
-    assert_eq!(rt; settled(A, B, &mut sheet), Err(22));
+    assert_eq!(rt; settled(A, BARE, &mut sheet).map_err(u8::from), Err(20));
+    assert_eq!(rt; settled(A, B, &mut sheet).map_err(u8::from), Err(22));
     assert_eq!(rt; unstruck(&sheet), 0);
     assert_eq!(rt; sheet[7].round, 7);
 }
@@ -195,17 +171,15 @@ fn a_round_wants_its_own_systems_and_sheet(rt: HostRuntime) -> Result<(), Fail> 
 }
 
 // Only foreign writes keep a comparison going: here the start pair is made unstruck before each round.
-fn forced_rounds(mut comparison: Open, sheet: &mut [Strike], count: u32) -> Result<Open, u8> {
+fn forced_rounds(mut comparison: Open, sheet: &mut [Strike], count: u32) -> Result<Open, Refused> {
     let first = ranked(A);
     let second = ranked(B);
     for _ in 0..count {
         if let Some(start) = sheet.first_mut() {
             *start = Strike::BLANK;
         }
-        match round(comparison, &first, &second, sheet) {
-            Ok((next, _)) => comparison = next,
-            Err(refused) => return Err(refused.refusal.number()),
-        }
+        let (next, _) = round(comparison, &first, &second, sheet)?;
+        comparison = next;
     }
     Ok(comparison)
 }
@@ -220,7 +194,10 @@ fn no_round_after_4097(rt: HostRuntime) -> Result<(), Fail> {
         return Err(Fail::new("refused"));
     };
     assert_eq!(rt; spent.rounds(), 4097);
-    assert!(rt; matches!(forced_rounds(spent, &mut sheet, 1), Err(25)));
+    let Err(refused) = forced_rounds(spent, &mut sheet, 1) else {
+        return Err(Fail::new("accepted"));
+    };
+    assert_eq!(rt; u8::from(refused.refusal), 25);
     Ok(())
 }
 
@@ -235,5 +212,8 @@ fn the_largest_sheet(rt: HostRuntime) {
     assert!(rt; matches!(settled(ROW, ROW, &mut sheet), Ok((true, _, _))));
     assert!(rt; matches!(settled(ROW, ROW_OPEN, &mut sheet), Ok((false, 4, _))));
     assert!(rt; matches!(settled(ROW_OPEN, ROW, &mut sheet), Ok((true, _, _))));
-    assert_eq!(rt; settled(ROW, ROW, &mut sheet[0..4095]), Err(22));
+    assert_eq!(rt;
+        settled(ROW, ROW, &mut sheet[0..4095]).map_err(u8::from),
+        Err(22)
+    );
 }

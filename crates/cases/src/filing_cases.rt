@@ -2,42 +2,41 @@
 use filing::filed::Filed;
 use filing::filing::file;
 use systems::kinds::{Permit, Rank};
+use systems::label::Label;
 use systems::system::System;
 
-// where filing ends, or the fault's number and byte
-fn ranked(bytes: &[u8], begin: usize) -> Result<usize, (u8, usize)> {
-    let mut place: Filed<Rank> = Filed::lone();
-    match file(bytes, begin, &mut place) {
-        Ok(end) => Ok(end),
-        Err(fault) => Err((fault.cause.number(), fault.byte)),
-    }
-}
-
-fn permitted(bytes: &[u8], begin: usize) -> Result<usize, (u8, usize)> {
-    let mut place: Filed<Permit> = Filed::lone();
-    match file(bytes, begin, &mut place) {
-        Ok(end) => Ok(end),
-        Err(fault) => Err((fault.cause.number(), fault.byte)),
-    }
+// where filing ends, or the fault's number and byte, which are what the cases below state
+fn end_of<L: Label>(bytes: &[u8], begin: usize) -> Result<usize, (u8, usize)> {
+    let mut place: Filed<L> = Filed::lone();
+    file(bytes, begin, &mut place).map_err(|fault| (u8::from(fault.cause), fault.byte))
 }
 
 #[test]
 fn each_fault_has_its_byte(rt: HostRuntime) {
-    assert_eq!(rt; ranked(b"", 0), Err((1, 0)));
-    assert_eq!(rt; ranked(b"MV\x00\x01\x01", 0), Err((1, 0)));
-    assert_eq!(rt; ranked(b"S", 0), Err((1, 0)));
-    assert_eq!(rt; ranked(b"SY\x03\x03\x00\x00XY\x00", 0), Err((2, 6)));
-    assert_eq!(rt; ranked(b"SY\x03\x03\x00\x00M", 0), Err((3, 6)));
-    assert_eq!(rt; ranked(b"SY\x03\x03\x00\x00X", 0), Err((3, 6)));
+    assert_eq!(rt; end_of::<Rank>(b"", 0), Err((1, 0)));
+    assert_eq!(rt; end_of::<Rank>(b"MV\x00\x01\x01", 0), Err((1, 0)));
+    assert_eq!(rt; end_of::<Rank>(b"S", 0), Err((1, 0)));
+    assert_eq!(rt; end_of::<Rank>(b"SY\x03\x03\x00\x00XY\x00", 0), Err((2, 6)));
+    assert_eq!(rt; end_of::<Rank>(b"SY\x03\x03\x00\x00M", 0), Err((3, 6)));
+    assert_eq!(rt; end_of::<Rank>(b"SY\x03\x03\x00\x00X", 0), Err((3, 6)));
     assert_eq!(rt;
-        ranked(b"SY\x03\x03\x00\x00MV\x00\x01\x01MV\x00\x03\x01", 0),
+        end_of::<Rank>(b"SY\x03\x03\x00\x00MV\x00\x01\x01MV\x00\x03\x01", 0),
         Err((5, 11))
     );
-    assert_eq!(rt; ranked(b"SY\x03\x03\x00\x00MV\x03\x01\x01", 0), Err((5, 6)));
-    assert_eq!(rt; ranked(b"SY\x03\x03\x00\x00OP\x00\x03", 0), Err((5, 6)));
-    assert_eq!(rt; ranked(b"SY\x03\x03\x00\x00LB\x03\x00\x00", 0), Err((5, 6)));
     assert_eq!(rt;
-        ranked(b"SY\x03\x03\x00\x00LB\x01\x00\x00LB\x01\x00\x00", 0),
+        end_of::<Rank>(b"SY\x03\x03\x00\x00MV\x03\x01\x01", 0),
+        Err((5, 6))
+    );
+    assert_eq!(rt;
+        end_of::<Rank>(b"SY\x03\x03\x00\x00OP\x00\x03", 0),
+        Err((5, 6))
+    );
+    assert_eq!(rt;
+        end_of::<Rank>(b"SY\x03\x03\x00\x00LB\x03\x00\x00", 0),
+        Err((5, 6))
+    );
+    assert_eq!(rt;
+        end_of::<Rank>(b"SY\x03\x03\x00\x00LB\x01\x00\x00LB\x01\x00\x00", 0),
         Err((6, 11))
     );
 }
@@ -45,41 +44,47 @@ fn each_fault_has_its_byte(rt: HostRuntime) {
 #[test]
 fn the_earliest_faulty_record_counts(rt: HostRuntime) {
     assert_eq!(rt;
-        ranked(b"SY\x03\x03\x00\x00MV\x09\x01\x01XY", 0),
+        end_of::<Rank>(b"SY\x03\x03\x00\x00MV\x09\x01\x01XY", 0),
         Err((5, 6))
     );
     assert_eq!(rt;
-        ranked(b"SY\x03\x03\x00\x00XYMV\x09\x01\x01", 0),
+        end_of::<Rank>(b"SY\x03\x03\x00\x00XYMV\x09\x01\x01", 0),
         Err((2, 6))
     );
 }
 
 #[test]
 fn headers_have_bounds(rt: HostRuntime) {
-    assert_eq!(rt; ranked(b"SY\x40\x20\x3f\x00", 0), Ok(6));
-    assert_eq!(rt; ranked(b"SY\x41\x20\x00\x00", 0), Err((4, 0)));
-    assert_eq!(rt; ranked(b"SY\x00\x01\x00\x00", 0), Err((4, 0)));
-    assert_eq!(rt; ranked(b"SY\x01\x21\x00\x00", 0), Err((4, 0)));
-    assert_eq!(rt; ranked(b"SY\x01\x00\x00\x00", 0), Err((4, 0)));
-    assert_eq!(rt; ranked(b"SY\x03\x03\x03\x00", 0), Err((4, 0)));
-    assert_eq!(rt; ranked(b"SY\x03\x03\x00\x01", 0), Err((4, 0)));
-    assert_eq!(rt; ranked(b"SY\x03\x03\x00\x02", 0), Err((4, 0)));
-    assert_eq!(rt; permitted(b"SY\x03\x03\x00\x01", 0), Ok(6));
-    assert_eq!(rt; permitted(b"SY\x03\x03\x00\x00", 0), Err((4, 0)));
+    assert_eq!(rt; end_of::<Rank>(b"SY\x40\x20\x3f\x00", 0), Ok(6));
+    assert_eq!(rt; end_of::<Rank>(b"SY\x41\x20\x00\x00", 0), Err((4, 0)));
+    assert_eq!(rt; end_of::<Rank>(b"SY\x00\x01\x00\x00", 0), Err((4, 0)));
+    assert_eq!(rt; end_of::<Rank>(b"SY\x01\x21\x00\x00", 0), Err((4, 0)));
+    assert_eq!(rt; end_of::<Rank>(b"SY\x01\x00\x00\x00", 0), Err((4, 0)));
+    assert_eq!(rt; end_of::<Rank>(b"SY\x03\x03\x03\x00", 0), Err((4, 0)));
+    assert_eq!(rt; end_of::<Rank>(b"SY\x03\x03\x00\x01", 0), Err((4, 0)));
+    assert_eq!(rt; end_of::<Rank>(b"SY\x03\x03\x00\x02", 0), Err((4, 0)));
+    assert_eq!(rt; end_of::<Permit>(b"SY\x03\x03\x00\x01", 0), Ok(6));
+    assert_eq!(rt; end_of::<Permit>(b"SY\x03\x03\x00\x00", 0), Err((4, 0)));
 }
 
 #[test]
 fn the_last_byte_is_cut(rt: HostRuntime) {
-    assert_eq!(rt; ranked(b"SY\x03\x03\x00", 0), Err((3, 0)));
-    assert_eq!(rt; ranked(b"SY\x03\x03\x00\x00MV\x00\x01", 0), Err((3, 6)));
-    assert_eq!(rt; ranked(b"SY\x03\x03\x00\x00OP\x00", 0), Err((3, 6)));
-    assert_eq!(rt; ranked(b"SY\x03\x03\x00\x00LB\x00\x07", 0), Err((3, 6)));
+    assert_eq!(rt; end_of::<Rank>(b"SY\x03\x03\x00", 0), Err((3, 0)));
     assert_eq!(rt;
-        permitted(b"SY\x03\x03\x00\x01LB\x00\x01\x02\x03\x04\x05\x06\x07", 0),
+        end_of::<Rank>(b"SY\x03\x03\x00\x00MV\x00\x01", 0),
+        Err((3, 6))
+    );
+    assert_eq!(rt; end_of::<Rank>(b"SY\x03\x03\x00\x00OP\x00", 0), Err((3, 6)));
+    assert_eq!(rt;
+        end_of::<Rank>(b"SY\x03\x03\x00\x00LB\x00\x07", 0),
         Err((3, 6))
     );
     assert_eq!(rt;
-        permitted(
+        end_of::<Permit>(b"SY\x03\x03\x00\x01LB\x00\x01\x02\x03\x04\x05\x06\x07", 0),
+        Err((3, 6))
+    );
+    assert_eq!(rt;
+        end_of::<Permit>(
             b"SY\x03\x03\x00\x01LB\x00\x01\x02\x03\x04\x05\x06\x07\x08",
             0,
         ),
@@ -91,10 +96,10 @@ fn the_last_byte_is_cut(rt: HostRuntime) {
 #[test]
 fn two_systems_are_filed_in_turn(rt: HostRuntime) {
     let both = b"SY\x03\x03\x00\x00MV\x00\x01\x01SY\x03\x03\x00\x00MV\x00\x01\x07";
-    assert_eq!(rt; ranked(both, 0), Ok(11));
-    assert_eq!(rt; ranked(both, 11), Err((5, 17)));
-    assert_eq!(rt; ranked(both, 22), Err((1, 22)));
-    assert_eq!(rt; ranked(both, 1_000_000), Err((1, 1_000_000)));
+    assert_eq!(rt; end_of::<Rank>(both, 0), Ok(11));
+    assert_eq!(rt; end_of::<Rank>(both, 11), Err((5, 17)));
+    assert_eq!(rt; end_of::<Rank>(both, 22), Err((1, 22)));
+    assert_eq!(rt; end_of::<Rank>(both, 1_000_000), Err((1, 1_000_000)));
 }
 
 #[test]

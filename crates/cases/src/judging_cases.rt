@@ -1,6 +1,5 @@
 // Judging: which states satisfy each node, and the refusals.
-use filing::filed::Filed;
-use filing::filing::file;
+use crate::filed::ranked;
 use formulas::judging::judge;
 use formulas::node::Node;
 use formulas::refusal::Refusal;
@@ -9,17 +8,15 @@ use systems::kinds::Rank;
 // 0 -1-> 1, 1 -2-> 2, state 0 open on 2, rank 3 at state 1
 const SYSTEM: &[u8] = b"SY\x03\x03\x00\x00MV\x00\x01\x01MV\x01\x02\x02OP\x00\x02LB\x01\x03\x00";
 
-fn judged(nodes: &[Node<Rank>], answers: &mut [u64]) -> Result<(), (u8, usize)> {
-    let mut system: Filed<Rank> = Filed::lone();
-    if file(SYSTEM, 0, &mut system).is_err() {
-        return Err((0, 0));
-    }
-    match judge(&system, nodes, answers) {
-        Ok(()) => Ok(()),
-        Err(refusal) => match refusal {
-            Refusal::Node(node) => Err((refusal.number(), node)),
-            Refusal::AnswersShort => Err((refusal.number(), 0)),
-        },
+fn judged(nodes: &[Node<Rank>], answers: &mut [u64]) -> Result<(), Refusal> {
+    judge(&ranked(SYSTEM), nodes, answers)
+}
+
+// a refusal's number and the node that it names, or 0, which are what the cases below state
+fn numbered(refusal: Refusal) -> (u8, usize) {
+    match refusal {
+        Refusal::Node(node) => (u8::from(refusal), node),
+        Refusal::AnswersShort => (u8::from(refusal), 0),
     }
 }
 
@@ -47,20 +44,23 @@ fn each_form_of_node(rt: HostRuntime) {
 fn refused_nodes(rt: HostRuntime) {
     let mut answers = [7u64; 2];
     assert_eq!(rt;
-        judged(&[Node::True, Node::Diamond(3, 0)], &mut answers),
-        Err((51, 1))
-    );
-    assert_eq!(rt; judged(&[Node::Box(200, 0)], &mut answers), Err((51, 0)));
-    assert_eq!(rt;
-        judged(&[Node::True, Node::And(0, 1)], &mut answers),
+        judged(&[Node::True, Node::Diamond(3, 0)], &mut answers).map_err(numbered),
         Err((51, 1))
     );
     assert_eq!(rt;
-        judged(&[Node::True, Node::True, Node::Or(2, 0)], &mut answers),
+        judged(&[Node::Box(200, 0)], &mut answers).map_err(numbered),
+        Err((51, 0))
+    );
+    assert_eq!(rt;
+        judged(&[Node::True, Node::And(0, 1)], &mut answers).map_err(numbered),
+        Err((51, 1))
+    );
+    assert_eq!(rt;
+        judged(&[Node::True, Node::True, Node::Or(2, 0)], &mut answers).map_err(numbered),
         Err((51, 2))
     );
     assert_eq!(rt;
-        judged(&[Node::True, Node::True, Node::True], &mut answers),
+        judged(&[Node::True, Node::True, Node::True], &mut answers).map_err(numbered),
         Err((52, 0))
     );
     assert_eq!(rt; answers, [7, 7]);

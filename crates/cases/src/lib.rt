@@ -4,6 +4,8 @@
 #[cfg(test)]
 mod comparison_cases;
 #[cfg(test)]
+mod filed;
+#[cfg(test)]
 mod filing_cases;
 #[cfg(test)]
 mod judging_cases;

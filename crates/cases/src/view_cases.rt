@@ -1,9 +1,10 @@
 // Views: the layers, the weak view and the tabled system.
+use crate::filed::{A, B, BARE, ranked};
+use comparison::refusal::Refusal;
 use comparison::settling::settle;
 use comparison::stage::Verdict;
 use comparison::strike::Strike;
 use filing::filed::Filed;
-use filing::filing::file;
 use std::test::Fail;
 use systems::kinds::Rank;
 use systems::system::System;
@@ -11,34 +12,23 @@ use views::layers::{AllClosed, AllOpen};
 use views::tabled::{over, tabulate};
 use views::weak::weak_view;
 
-fn ranked(bytes: &'static [u8]) -> Filed<'static, Rank> {
-    let mut place = Filed::lone();
-    let _ = file(bytes, 0, &mut place);
-    place
-}
-
 // whether the verdict is yes, and the start pair's strike, where both starts are 0
-fn verdict<F: System<Rank>, S: System<Rank>>(first: &F, second: &S) -> Result<(bool, Strike), u8> {
+fn verdict<F: System<Rank>, S: System<Rank>>(
+    first: &F,
+    second: &S,
+) -> Result<(bool, Strike), Refusal> {
     let mut sheet = [Strike::BLANK; 16];
-    match settle(first, second, &mut sheet) {
-        Ok(settled) => Ok((matches!(settled.verdict, Verdict::Yes(_)), sheet[0])),
-        Err(refusal) => Err(refusal.number()),
-    }
+    let settled = settle(first, second, &mut sheet)?;
+    Ok((matches!(settled.verdict, Verdict::Yes(_)), sheet[0]))
 }
 
 // the same, weakly
-fn weakly(first: &'static [u8], second: &'static [u8]) -> Result<(bool, Strike), u8> {
+fn weakly(first: &'static [u8], second: &'static [u8]) -> Result<(bool, Strike), Refusal> {
     verdict(
         &weak_view::<Rank, Filed<Rank>>(ranked(first)),
         &weak_view::<Rank, Filed<Rank>>(ranked(second)),
     )
 }
-
-const A: &[u8] = b"SY\x03\x03\x00\x00MV\x00\x01\x01MV\x01\x02\x02";
-
-const B: &[u8] = b"SY\x03\x03\x00\x00MV\x00\x01\x01MV\x00\x01\x02MV\x01\x02\x02";
-
-const BARE: &[u8] = b"SY\x01\x01\x00\x00";
 
 const SILENT_LOOP: &[u8] = b"SY\x01\x01\x00\x00MV\x00\x00\x00";
 
@@ -49,18 +39,18 @@ fn layers_over_both(rt: HostRuntime) {
     assert!(rt; matches!(verdict(&ranked(A), &ranked(B)), Ok((false, _))));
     assert!(rt;
         matches!(
-            verdict(&AllOpen(ranked(A)), &AllOpen(ranked(B))),
+            verdict(&AllOpen::over(ranked(A)), &AllOpen::over(ranked(B))),
             Ok((true, _))
         )
     );
     assert!(rt;
         matches!(
-            verdict(&AllClosed(ranked(A)), &AllClosed(ranked(B))),
+            verdict(&AllClosed::over(ranked(A)), &AllClosed::over(ranked(B))),
             Ok((false, _))
         )
     );
-    assert_eq!(rt; AllOpen(ranked(A)).open_on(2), 0b111);
-    assert_eq!(rt; AllOpen(ranked(A)).open_on(3), 0);
+    assert_eq!(rt; AllOpen::over(ranked(A)).open_on(2), 0b111);
+    assert_eq!(rt; AllOpen::over(ranked(A)).open_on(3), 0);
 }
 
 // a silent loop leaves everything open: `[0]tt` tells a bare state from it
@@ -138,9 +128,8 @@ fn tables_answer_as_what_they_copy(rt: HostRuntime) -> Result<(), Fail> {
     let mut labels = [Rank { value: 9 }; 4];
     assert!(rt; tabulate(&system, &mut moves[0..5], &mut marks, &mut labels).is_err());
     assert_eq!(rt; moves, [9; 7]);
-    let shape = match tabulate(&system, &mut moves, &mut marks, &mut labels) {
-        Ok(shape) => shape,
-        Err(_) => return Err(Fail::new("short")),
+    let Ok(shape) = tabulate(&system, &mut moves, &mut marks, &mut labels) else {
+        return Err(Fail::new("short"));
     };
     assert_eq!(rt; moves, [0, 0b110, 0b100, 0, 0, 0, 9]);
     assert_eq!(rt; marks, [0, 0, 0b10, 9]);

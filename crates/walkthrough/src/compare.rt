@@ -19,47 +19,32 @@ pub(crate) fn show_comparison<A: System<Rank>, B: System<Rank>>(
 ) -> io::Result<()> {
     println!(rt; "\n{title}")?;
     let mut sheet = [Strike::BLANK; 4096];
-    match begin(first, second, &mut sheet) {
-        Ok(opened) => {
-            let once = show_round(rt, opened, first, second, &mut sheet)?;
-            let twice = show_round(rt, once, first, second, &mut sheet)?;
-            let rest = show_run(rt, twice, first, second, &mut sheet)?;
-            show_verdict(rt, rest, &sheet)
-        }
-        Err(refusal) => {
-            let number = refusal.number();
-            println!(rt; "  refused {number}")
-        }
-    }
+    let opened = match begin(first, second, &mut sheet) {
+        Ok(opened) => opened,
+        Err(refusal) => return println!(rt; "  refused {refusal}"),
+    };
+    let show_round = |k: u16, struck: u32| println!(rt; "  round {k} struck {struck}");
+    let once = show_step(rt, round(opened, first, second, &mut sheet), show_round)?;
+    let twice = show_step(rt, round(once, first, second, &mut sheet), show_round)?;
+    let rest = show_step(
+        rt,
+        run(twice, first, second, &mut sheet, 4097),
+        |_, (rounds, struck)| println!(rt; "  a run of {rounds} more struck {struck}"),
+    )?;
+    show_verdict(rt, rest, &sheet)
 }
 
-fn show_round<A: System<Rank>, B: System<Rank>>(
+// shows what a round or a run answered, with the rounds done, or that it was refused
+fn show_step<T: Drop, F: FnOnce(u16, T) -> io::Result<()>>(
     rt: &HostRuntime,
-    comparison: Open,
-    first: &A,
-    second: &B,
-    sheet: &mut [Strike],
-) -> io::Result<Open> {
-    match round(comparison, first, second, sheet) {
-        Ok((next, struck)) => {
-            let k = next.rounds();
-            println!(rt; "  round {k} struck {struck}")?;
-            Ok(next)
-        }
-        Err(refused) => show_refused(rt, refused),
-    }
-}
-
-fn show_run<A: System<Rank>, B: System<Rank>>(
-    rt: &HostRuntime,
-    comparison: Open,
-    first: &A,
-    second: &B,
-    sheet: &mut [Strike],
-) -> io::Result<Open> {
-    match run(comparison, first, second, sheet, 4097) {
-        Ok((next, (rounds, struck))) => {
-            println!(rt; "  a run of {rounds} more struck {struck}")?;
+    outcome: Result<(Open, T), Refused>,
+    show: F,
+) -> io::Result<Open>
+    requires { F.IsAlwaysCallable show }
+{
+    match outcome {
+        Ok((next, answer)) => {
+            show(next.rounds(), answer)?;
             Ok(next)
         }
         Err(refused) => show_refused(rt, refused),
@@ -71,8 +56,7 @@ fn show_refused(rt: &HostRuntime, refused: Refused) -> io::Result<Open> {
         refusal,
         comparison,
     } = refused;
-    let number = refusal.number();
-    println!(rt; "  refused {number}, and the comparison given back")?;
+    println!(rt; "  refused {refusal}, and the comparison given back")?;
     Ok(comparison)
 }
 

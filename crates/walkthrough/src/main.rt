@@ -9,7 +9,7 @@ use compare::show_comparison;
 use equipment::{DAMAGED, DESIGN, SPECIFICATION};
 use filing::filed::Filed;
 use filing::filing::file;
-use report::{show_clauses, show_fault, show_system};
+use report::{show_clauses, show_system};
 use std::io;
 use systems::kinds::Rank;
 
@@ -39,7 +39,7 @@ fn main(rt: HostRuntime) -> io::Result<()> {
     }
     println!(rt; "\nA damaged copy of the specification")?;
     if let Err(fault) = file(DAMAGED, 0, &mut specification) {
-        show_fault(&rt, fault)?;
+        println!(rt; "refused {fault}")?;
     }
     Ok(())
 }

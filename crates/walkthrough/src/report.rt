@@ -1,5 +1,4 @@
 // Printing what was read and what was found.
-use filing::fault::Fault;
 use formulas::judging::judge;
 use formulas::node::Node;
 use std::io;
@@ -28,22 +27,18 @@ fn show_state<S: System<Rank>>(rt: &HostRuntime, system: &S, p: u8) -> io::Resul
     let rank = system.label(p).value;
     print!(rt; "  state {p}, rank {rank}:")?;
     for a in 0..system.actions() {
-        show_moves(rt, a, system.reach(p, a))?;
+        show_each(system.reach(p, a), |t| print!(rt; " -{a}-> {t}"))?;
     }
-    let open = u64::from(system.open_on(p));
-    for a in 0..system.actions() {
-        if contains(open, a) {
-            print!(rt; " open on {a}")?;
-        }
-    }
+    show_each(u64::from(system.open_on(p)), |a| print!(rt; " open on {a}"))?;
     println!(rt; "")
 }
 
-fn show_moves(rt: &HostRuntime, a: u8, targets: u64) -> io::Result<()> {
-    for t in 0..64 {
-        if contains(targets, t) {
-            print!(rt; " -{a}-> {t}")?;
-        }
+// shows each member of a set, the lowest first
+fn show_each<F: Fn(u8) -> io::Result<()>>(set: u64, show: F) -> io::Result<()>
+    requires { F.IsAlwaysCallable show }
+{
+    for member in (0..64).filter(|&i| contains(set, i)) {
+        show(member)?;
     }
     Ok(())
 }
@@ -101,16 +96,6 @@ fn show_clause(rt: &HostRuntime, clause: &str, first: u64, second: u64) -> io::R
 }
 
 fn show_set(rt: &HostRuntime, set: u64) -> io::Result<()> {
-    for p in 0..64 {
-        if contains(set, p) {
-            print!(rt; " {p}")?;
-        }
-    }
+    show_each(set, |p| print!(rt; " {p}"))?;
     println!(rt; "")
-}
-
-pub(crate) fn show_fault(rt: &HostRuntime, fault: Fault) -> io::Result<()> {
-    let number = fault.cause.number();
-    let byte = fault.byte;
-    println!(rt; "refused {number} at {byte}")
 }
