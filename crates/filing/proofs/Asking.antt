@@ -9,6 +9,7 @@ use Rattle.std.specs.Option.{unwrap_or}
 use Rattle.std.specs.Result.{result_unwrap_or}
 use mathlib.Core.List.{reverse_aux}
 use Rattle.systems.specs.declared.label.Label.{Ghosts}
+use Rattle.systems.specs.Meaning.{Bounded}
 use Rattle.filing.specs.declared.fault.Cause.{Cause}
 use Rattle.filing.specs.declared.filed.Filed.{Filed}
 use Rattle.filing.specs.declared.header.Header.{Header}
@@ -17,7 +18,7 @@ use Rattle.filing.specs.Accepted.{meaning_at}
 use Rattle.filing.specs.Reading.{then_after, first_records, records_after}
 use Rattle.filing.specs.Contents.{Contents, accept, proceed, records_from, labelled_in, objection, meaning_of}
 use Rattle.filing.specs.Format.{Entry, entry_at}
-use Rattle.filing.specs.Standing.{HeaderFits, header_fits, Stands, standing, accepted_stands, accepted_meaning}
+use Rattle.filing.specs.Standing.{HeaderFits, header_fits, Stands, standing, accepted_stands, accepted_meaning, accepted_bounded}
 
 -- ---- what is gathered from records as they come is a value of them all, the latest first
 
@@ -75,33 +76,47 @@ module _ {L : Type 0} (width : ℕ) (read : List ℕ → L) (bytes : List ℕ) (
 
 -- ---- a filed system
 
-module _ {L : Type 0} {g : Ghosts L} (s : Filed L g) where
+-- whichever way labels are read
+module _ {L : Type 0} {g : Ghosts L} (read : List ℕ → L) (s : Filed L g) where
   -- the kind that the bytes name
   abbrev pub kind : ℕ
   kind = get_or s.bytes.now (s.begin + 5) 0
 
-  abbrev pub filed_stands : Stands kind g.WIDTH g.read s.bytes.now s.begin s.header
-  filed_stands = accepted_stands g.read s.header g.WIDTH s.bytes.now s.begin s.accepted
+  abbrev pub filed_stands : Stands kind g.WIDTH read s.bytes.now s.begin s.header
+  filed_stands = accepted_stands read s.header g.WIDTH s.bytes.now s.begin s.accepted
 
   abbrev pub filed : Contents L
-  filed = standing kind g.WIDTH g.read s.bytes.now s.begin s.header filed_stands
+  filed = standing kind g.WIDTH read s.bytes.now s.begin s.header filed_stands
 
   pub filed-fits : HeaderFits kind s.bytes.now s.begin s.header
   filed-fits = header_fits kind s.bytes.now s.begin s.header filed_stands.header_is
 
-  pub filed_meaning : meaning_at g.plain g.read g.WIDTH s.bytes.now s.begin ≡ meaning_of g.plain filed
-  filed_meaning = accepted_meaning g.read s.header g.WIDTH s.bytes.now s.begin s.accepted g.plain
+  pub filed_meaning : (plain : L) → meaning_at plain read g.WIDTH s.bytes.now s.begin ≡ meaning_of plain filed
+  filed_meaning = accepted_meaning read s.header g.WIDTH s.bytes.now s.begin s.accepted
+
+  pub filed_bounded : (plain : L) → Bounded (meaning_at plain read g.WIDTH s.bytes.now s.begin)
+  filed_bounded = accepted_bounded read s.header g.WIDTH s.bytes.now s.begin s.accepted
+
+-- as the kind reads them
+module _ {L : Type 0} {g : Ghosts L} (s : Filed L g) where
+  abbrev pub own_contents : Contents L
+  own_contents = filed g.read s
+
+  pub own_meaning : meaning_at g.plain g.read g.WIDTH s.bytes.now s.begin ≡ meaning_of g.plain own_contents
+  own_meaning = filed_meaning g.read s g.plain
 
   abbrev pub filed_list : List (Record L)
   filed_list = records_after g.WIDTH g.read s.bytes.now (s.begin + 6)
 
-  listed : filed.records ≡ reverse_aux filed_list []
+  listed : own_contents.records ≡ reverse_aux filed_list []
   unfolding records_after
-  listed = records_read g.WIDTH g.read s.bytes.now s.header (length s.bytes.now) [] (s.begin + 6) (filed_stands.records, filed_stands.end) filed_stands.records_are
+  listed =
+      let o = filed_stands g.read s in
+      records_read g.WIDTH g.read s.bytes.now s.header (length s.bytes.now) [] (s.begin + 6) (o.records, o.end) o.records_are
 
   -- what is gathered from all the records
   pub asks : {A B : Type 0} (add : A → B → A) (gives : Record L → Option B) (value : List (Record L) → A) → ((r : Record L) (rs : List (Record L)) → value (r ∷ rs) ≡ put add (value rs) (gives r)) →
-      (init result : A) → init ≡ value [] → result ≡ fold add init (filter_map gives filed_list) → result ≡ value filed.records
+      (init result : A) → init ≡ value [] → result ≡ fold add init (filter_map gives filed_list) → result ≡ value own_contents.records
   asks {A} add gives value more init result begins is =
       is
       ∙ ap (λ (a : A). fold add a (filter_map gives filed_list)) begins

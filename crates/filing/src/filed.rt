@@ -73,7 +73,7 @@ impl<'a, L: Label> Filed<'a, L> {
     }
 }
 
-#[tactic(auto, using(crate::proofs::Asking::filed_meaning))]
+#[tactic(auto, using(crate::proofs::Asking::own_meaning))]
 impl<'a, L: Label> System<L> for Filed<'a, L> {
     ghost meaning = { λ s. meaning_at L.Label.plain L.Label.read L.Label.WIDTH s.bytes.now s.begin };
 

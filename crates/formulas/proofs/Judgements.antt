@@ -1,16 +1,16 @@
 -- A judged answer sheet, node by node.
-use Rattle.std.proofs.Common.{◌≡◌, ℕ, ◌+◌, ◌<◌, ◌≤◌, Bool, List, None, [], ◌∷◌, ◌++◌, map, length, get_or, take, drop, set, sym, ap, ◌∙◌, ap₂, arith}
+use Rattle.std.proofs.Common.{◌≡◌, ℕ, ◌+◌, ◌<◌, ◌≤◌, Bool, false, List, [], ◌∷◌, ◌++◌, map, length, get_or, take, drop, set, sym, refl, ap, ◌∙◌, ap₂, arith}
 use Rattle.std.proofs.lemmas.List.{append_assoc, length-map, length-take-le, get_or_append_left, get_or-map, map_push, set_at, take_at, take_more, drop_more}
 use Rattle.std.proofs.lemmas.Bool.Decides.{Decides-at}
 use Rattle.systems.specs.Meaning.{Meaning, Bounded}
 use Rattle.systems.specs.Sets.{has}
 use Rattle.formulas.specs.Formula.{Formula, bottom}
-use Rattle.formulas.specs.Sheet.{formula, standing, faulty, first_fault}
+use Rattle.formulas.specs.Sheet.{formula, standing_from, standing, faulty}
 use Rattle.formulas.specs.NodeSets.{node_set}
 use Rattle.formulas.specs.Judging.{satisfying, judged, Judges}
 use Rattle.formulas.specs.declared.node.Node.{Node}
 use Rattle.formulas.proofs.Satisfaction.{satisfying_decides, node_set_is}
-use Rattle.formulas.proofs.Sheets.{faultless, standing_push, length-standing}
+use Rattle.formulas.proofs.Sheets.{standing_push, length-standing}
 
 module _ {L : Type 0} (below : L → L → Bool) (m : Meaning L) (b : Bounded m) where
   sets_of : List (Node L) → List ℕ
@@ -24,10 +24,14 @@ module _ {L : Type 0} (below : L → L → Bool) (m : Meaning L) (b : Bounded m)
   unfolding sets_of
   sets_push ns n = ap (map (satisfying below m)) (standing_push ns n) ∙ map_push (satisfying below m) (standing ns) (formula (standing ns) n)
 
+  pub judged_none : (cells : List ℕ) → judged below m [] cells ≡ cells
+  unfolding judged standing standing_from
+  judged_none cells = refl
+
   -- one node more
-  pub judged_more : (ns : List (Node L)) (cells : List ℕ) (i : ℕ) (n : Node L) {xs : List ℕ} {v : ℕ} → first_fault m.actions ns ≡ None → i < length ns → length ns ≤ length cells → n ≡ get_or ns i n → xs ≡ judged below m (take i ns) cells → v ≡ node_set below m (take i xs) n → set xs i v ≡ judged below m (take (i + 1) ns) cells
+  pub judged_more : (ns : List (Node L)) (cells : List ℕ) (i : ℕ) (n : Node L) {xs : List ℕ} {v : ℕ} → i < length ns → length ns ≤ length cells → n ≡ get_or ns i n → faulty m.actions i n ≡ false → xs ≡ judged below m (take i ns) cells → v ≡ node_set below m (take i xs) n → set xs i v ≡ judged below m (take (i + 1) ns) cells
   unfolding judged sets_of
-  judged_more ns cells i n {xs} f h k r e w =
+  judged_more ns cells i n {xs} h k r f e w =
       ap₂ (λ (zs : List ℕ) (z : ℕ). set zs i z) split (w ∙ value)
       ∙ set_at done _ _ _ i length_done
       ∙ sym (append_assoc done (satisfying below m (formula fs n) ∷ []) (drop (i + 1) cells))
@@ -52,7 +56,7 @@ module _ {L : Type 0} (below : L → L → Bool) (m : Meaning L) (b : Bounded m)
       before = ap (take i) split ∙ take_at done _ i length_done
 
       value : node_set below m (take i xs) n ≡ satisfying below m (formula fs n)
-      value = node_set_is below m b (take i xs) fs before n (ap (λ (j : ℕ). faulty m.actions j n) (ap length before ∙ length_done) ∙ faultless m.actions ns f i n h r)
+      value = node_set_is below m b (take i xs) fs before n (ap (λ (j : ℕ). faulty m.actions j n) (ap length before ∙ length_done) ∙ f)
 
       front : take (i + 1) ns ≡ take i ns ++ n ∷ []
       front = take_more ns i n h ∙ ap (λ (x : Node L). take i ns ++ x ∷ []) (sym r)

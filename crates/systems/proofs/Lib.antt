@@ -1,3 +1,4 @@
+pub mod Bytes
 pub mod Cells
 pub mod Questions
 pub mod Sets

@@ -1,6 +1,6 @@
 -- The laws of sets held as numbers.
 use Rattle.std.specs.Prelude.{◌≡◌, ℕ, zero, suc, ◌+◌, ◌-◌, ◌*◌, ◌/◌, ◌%◌, ◌^◌, ◌<◌, ◌≤◌, Bool, true, false, cond, not, ◌&&◌, ◌||◌, ltb, ◌⊎◌, Decides, ◌==◌, bit_and, bit_or, nat_eq, nat_lt, refl}
-use Rattle.std.proofs.Common.{sym, ap, ap₂, ◌∙◌, inl, inr, arith, min, max, pow_pos, pow_mono}
+use Rattle.std.proofs.Common.{sym, ap, ap₂, ◌∙◌, inl, inr, mod-lt, arith, min, max, pow_pos, pow_mono}
 use Rattle.std.proofs.Math.Bool.{or-false}
 use Rattle.std.proofs.Math.Nat.{pow-succ'}
 use Rattle.std.specs.Int.Bits.{and_lt}
@@ -20,6 +20,9 @@ two_bits zero h = inl refl
 two_bits (suc zero) h = inr refl
 two_bits (suc (suc b)) h = absurd (omega arith)
 
+pub bit_cases : (n : ℕ) → (n % 2 ≡ 0) ⊎ (n % 2 ≡ 1)
+bit_cases n = two_bits (n % 2) (mod-lt n {m = 2} (omega arith))
+
 -- the bit of number i in a set
 bit_of : (m i : ℕ) → (bit_at m i ≡ 0) ⊎ (bit_at m i ≡ 1)
 bit_of m i = two_bits (bit_at m i) (bit_at-lt m i)
@@ -34,11 +37,11 @@ by_bits P p00 p01 p10 p11 a b i = go (bit_at a i) (bit_at b i) (bit_of a i) (bit
     go x y (inr e) (inl d) = rw (e, d) p10
     go x y (inr e) (inr d) = rw (e, d) p11
 
-has_zero : (m : ℕ) → has m 0 ≡ (m % 2 == 1)
+pub has_zero : (m : ℕ) → has m 0 ≡ (m % 2 == 1)
 unfolding has
 has_zero m = ap (λ (x : ℕ). nat_eq x 1) (bit_at_lowest m)
 
-has_suc : (m i : ℕ) → has m (suc i) ≡ has (m / 2) i
+pub has_suc : (m i : ℕ) → has m (suc i) ≡ has (m / 2) i
 unfolding has
 has_suc m i = ap (λ (x : ℕ). nat_eq x 1) (bit_at-suc m i)
 
@@ -117,7 +120,7 @@ has_or a b i =
 pub has_none : (i : ℕ) → has 0 i ≡ false
 has_none i = has_beyond 0 0 i (omega arith) (omega arith)
 
-has_single : (j i : ℕ) → has (2 ^ j) i ≡ (i == j)
+pub has_single : (j i : ℕ) → has (2 ^ j) i ≡ (i == j)
 unfolding has
 has_single j i = go (cases_eq i j)
   where
@@ -164,9 +167,9 @@ and_contained w a b la lb =
     keeps true y k = k refl
     keeps false y k = refl
 
--- ---- the numbers below n
+-- ---- the numbers below n, and the numbers that a set lacks
 
-has_below : (n i : ℕ) → has (2 ^ n - 1) i ≡ nat_lt i n
+pub has_below : (n i : ℕ) → has (2 ^ n - 1) i ≡ nat_lt i n
 unfolding has
 has_below n i = go (cases_lt i n)
   where
@@ -179,6 +182,25 @@ set_of_below w n h = has_ext w _ _ (set_of_lt w _) fits (λ i l. has-set_of w (�
   where
     fits : 2 ^ n - 1 < 2 ^ w
     fits = let pos = pow_pos n in let le : 2 ^ n ≤ 2 ^ w = pow_mono h in omega arith
+
+pub has_complement : (w a i : ℕ) → a < 2 ^ w → i < w → has (2 ^ w - 1 - a) i ≡ not (has a i)
+has_complement zero a i h l = absurd (omega arith)
+has_complement (suc w) a zero h l = has_zero _ ∙ go (bit_cases a) ∙ ap not (sym (has_zero a))
+  where
+    h' : a < 2 * 2 ^ w
+    h' = rw (pow-succ' 2 w) at h
+
+    go : (a % 2 ≡ 0) ⊎ (a % 2 ≡ 1) → ((2 ^ suc w - 1 - a) % 2 == 1) ≡ not (a % 2 == 1)
+    go (inl e) = rw (pow-succ' 2 w) (eq-eqb _ _ (omega arith) ∙ ap not (sym (ne_eqb (a % 2) 1 (omega arith))))
+    go (inr e) = rw (pow-succ' 2 w) (ne_eqb _ _ (omega arith) ∙ ap not (sym (eq-eqb (a % 2) 1 e)))
+has_complement (suc w) a (suc i) h l =
+    has_suc _ i ∙ ap (λ (x : ℕ). has x i) half ∙ has_complement w (a / 2) i (omega arith) (omega arith) ∙ ap not (sym (has_suc a i))
+  where
+    h' : a < 2 * 2 ^ w
+    h' = rw (pow-succ' 2 w) at h
+
+    half : (2 ^ suc w - 1 - a) / 2 ≡ 2 ^ w - 1 - a / 2
+    half = rw (pow-succ' 2 w) (omega arith)
 
 -- ---- tests that agree, or that a lower bound settles
 
@@ -205,7 +227,7 @@ every_within n w f h k = same_from_decides _ _ (every_decides w f) (Decides-like
 
 -- ---- empty sets, and sets that meet or are contained
 
-empty_set : (w a : ℕ) → a < 2 ^ w → (a == 0) ≡ every w (λ i. not (has a i))
+pub empty_set : (w a : ℕ) → a < 2 ^ w → (a == 0) ≡ every w (λ i. not (has a i))
 empty_set w a h = same_from_decides _ _ (none_in, none_then) (every_decides w (λ i. not (has a i)))
   where
     none_in : nat_eq a 0 ≡ true → (i : ℕ) → i < w → not (has a i) ≡ true
@@ -227,6 +249,18 @@ pub some_and : (w a b : ℕ) → a < 2 ^ w → some_of w (λ i. has a i && has b
 some_and w a b h =
     some_cong w _ (has (bit_and a b)) (λ i l. sym (has_and a b i)) ∙ sym (not_every w (has (bit_and a b)))
     ∙ ap not (sym (empty_set w (bit_and a b) (omega (arith, and_le_l a b))))
+
+pub contained_and : (w a b : ℕ) → a < 2 ^ w → b < 2 ^ w → contained w a b ≡ (bit_and a (2 ^ w - 1 - b) == 0)
+unfolding contained
+contained_and w a b h k =
+    let c : ℕ = 2 ^ w - 1 - b in
+    every_cong w _ (λ i. not (has (bit_and a c) i)) (λ i l. go (has a i) (has b i) ∙ ap not (ap (◌&&◌ (has a i)) (sym (has_complement w b i k l)) ∙ sym (has_and a c i)))
+    ∙ sym (empty_set w (bit_and a c) (omega (arith, and_le_l a c)))
+  where
+    go : (x y : Bool) → (not x || y) ≡ not (x && not y)
+    go true true = refl
+    go true false = refl
+    go false y = refl
 
 -- ---- a set that is made number by number
 

@@ -5,7 +5,7 @@ use Rattle.std.specs.List.{filter_map}
 use Rattle.std.specs.Option.{unwrap_or}
 use Rattle.filing.specs.Reading.{left}
 use Rattle.filing.specs.Contents.{label_in}
-use Rattle.filing.proofs.Asking.{filed, filed_meaning, filed_list, asks, last_given, last_fold}
+use Rattle.filing.proofs.Asking.{own_contents, own_meaning, filed_list, asks, last_given, last_fold}
 use Rattle.filing.proofs.Says.{named, label_more}
 use Rattle.filing.proofs.filed.FiledSystem.label.Goals as goal
 use Rattle.filing.proofs.filed.FiledSystem.label.Goals.{then-p-header, else-p-header}
@@ -30,5 +30,5 @@ returns g c =
     (YieldsList-from_first (λ x. x) (left g.L.Label.WIDTH g.L.Label.read) (filed_list s) cc)
     c.filter_map.ensures.closure (λ x r q k. search (rules, tests))))
     ∙ last_fold plain None (filter_map (named p) (filed_list s)))
-    ∙ ap (label_in plain (filed s).records) state
-    ∙ sym (ap (λ m. m.label c.args.p) (filed_meaning s))
+    ∙ ap (label_in plain (own_contents s).records) state
+    ∙ sym (ap (λ m. m.label c.args.p) (own_meaning s))

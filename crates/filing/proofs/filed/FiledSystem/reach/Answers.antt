@@ -4,7 +4,7 @@ use Rattle.systems.specs.Sets.{set_of}
 use Rattle.systems.proofs.Sets.{set_of_none}
 use Rattle.filing.specs.Reading.{left}
 use Rattle.filing.specs.Contents.{move_in}
-use Rattle.filing.proofs.Asking.{filed_meaning, filed_list, asks}
+use Rattle.filing.proofs.Asking.{own_meaning, filed_list, asks}
 use Rattle.filing.proofs.Says.{with_member, moved, moves_more}
 use Rattle.filing.proofs.filed.FiledSystem.reach.Goals as goal
 
@@ -17,4 +17,4 @@ returns g c =
     (YieldsList-from_first (λ x. x) (left g.L.Label.WIDTH g.L.Label.read) (filed_list s) cc)
     c.filter_map.ensures.closure (λ x r q k. search (rules, tests)))
     (λ a x b q k. search rules))
-    ∙ sym (ap (λ m. set_of 64 (m.moves c.args.p c.args.a)) (filed_meaning s))
+    ∙ sym (ap (λ m. set_of 64 (m.moves c.args.p c.args.a)) (own_meaning s))
