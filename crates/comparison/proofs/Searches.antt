@@ -2,16 +2,13 @@
 use Rattle.std.proofs.Common.{◌≡◌, ℕ, zero, suc, ◌+◌, ◌^◌, ◌<◌, ◌≤◌, Bool, true, false, not, ◌&&◌, ◌||◌, eqb, ◌⊎◌, List, get_or, Some, None, Decides, Option, sym, refl, ap, ◌∙◌, ap₂, inl, inr, arith}
 use mathlib.Core.Path.{fun_ext}
 use denote.Param.Members.{Mut}
-use denote.Ref.{Bor}
 use lib.Bits.{bit_and, and_lt, bit_or}
 use Rattle.std.proofs.lemmas.Bool.{cases_lt, cases_Bool, eqb-true, eq-eqb, and_parts, and_from, true≢false}
 use Rattle.std.proofs.lemmas.Bool.Decides.{same_from_decides, Decides-not}
 use Rattle.std.proofs.lemmas.Iterator.Adapters.{option_map_id}
 use Rattle.std.proofs.iter.Yields.{nat_range_steps}
 use Rattle.std.proofs.iter.runs.Sources.{range_runs}
-use Rattle.std.proofs.lemmas.Iterator.{first_from_Range}
-use Rattle.std.specs.Fn.{Called, CalledAt}
-use Rattle.std.specs.Iterator.{FindsItem}
+use Rattle.std.specs.Fn.{Called}
 use Rattle.std.specs.Iterator.Runs.{SomeRun, CallKeepsClosure, AllItemsGive, IsFirstToGive, ItemsCountUp}
 use Rattle.std.specs.Option.{MatchOption, option_map}
 use Rattle.std.specs.declared.ops.Range.{Range}
@@ -60,19 +57,9 @@ module _ (f : ℕ → Bool) where
   unfolding lowest given
   lowest_some w t h fails passes = first_some _ w t t h (λ i l. rw (fails i l)) (rw passes)
 
--- ---- what `find` and `find_map` over a range answer
+-- ---- what `find_map` over a range answers
 
 module _ {F : Type 0} (s : Range ℕ) (from : s.start ≡ 0) (f : F) where
-  pub find_lowest : {g : Mut F (Bor ℕ × Unit {0}) Bool} (test : ℕ → Bool) (u : Range ℕ) (r : Option ℕ) → FindsItem nat_range_steps g s f r u
-      → ((x : ℕ) (b : Bool) (q : F) → CalledAt g f x b q → (q ≡ f) × (b ≡ test x)) → r ≡ lowest s.end test
-  find_lowest {g} test u r ran says =
-      is r (first_from_Range s u f r (λ x. test x ≡ true) (λ x. test x ≡ false) ran (λ x q k. sym (says x true q k).1) (λ x q k. ((says x false q k).0, sym (says x false q k).1)))
-    where
-      is : (o : Option ℕ) → MatchOption o ((k : ℕ) → s.start ≤ k → k < s.end → test k ≡ false)
-          (λ i. (s.start ≤ i) × (i < s.end) × (test i ≡ true) × ((k : ℕ) → s.start ≤ k → k < i → test k ≡ false)) → o ≡ lowest s.end test
-      is None h = sym (lowest_none test s.end (λ i l. h i (omega arith) l))
-      is (Some i) h = sym (lowest_some test s.end i h.1 (λ k l. h.3 k (omega arith) l) h.2)
-
   pub find_map_first : {X : Type 0} {g : Mut F (ℕ × Unit {0}) (Option X)} (h : ℕ → Option X) (r : Option X)
       → SomeRun nat_range_steps s (λ p. MatchOption r ((p.whole ≡ true) × AllItemsGive p g f None)
       (λ y. (i : ℕ) × (i < p.len) × (p.len ≡ i + 1) × IsFirstToGive p g f (Some y) None i))

@@ -1,5 +1,5 @@
 // The test of a move, for both sides and every two systems.
-ghost use Rattle.std.specs.Prelude.{◌≡◌, ◌&&◌, length, ◌==◌, bit_and};
+ghost use Rattle.std.specs.Prelude.{◌≡◌, ℕ, ◌<◌, Bool, ◌&&◌, length, ◌==◌, bit_and};
 ghost use Rattle.systems.specs.Sets.{has};
 ghost use Rattle.preorder.specs.Reason.{unanswered};
 ghost use Rattle.comparison.specs.Search.{lowest, relation_of};
@@ -22,7 +22,23 @@ pub(crate) fn unanswered<L: Label, M: System<L>, O: System<L>>(
 {
     let reached = mover.reach(p, a);
     let answers = other.reach(q, a);
-    (0..mover.states()).find(|&t| is_lost(reached, related[usize::from(t)], answers, t))
+    lowest_where(mover.states(), |t| {
+        is_lost(reached, related[usize::from(t)], answers, t)
+    })
+}
+
+// The lowest number below n that passes the test, whichever test T it is that the closure answers. By a loop of its own: through `find` a
+// round takes 1.4 times as long.
+fn lowest_where<F: Fn(u8) -> bool>(n: u8, test: F) -> Option<u8>
+    requires { (i : ℕ) → i < n → F.pre test i }
+    ensures { (T : ℕ → Bool) → ((i : ℕ) (b : Bool) → i < n → F.post test i b → b ≡ T i) → result ≡ lowest n T }
+{
+    for i in 0..n {
+        if test(i) {
+            return Some(i);
+        }
+    }
+    None
 }
 
 // whether a target is reached and none of the states related to it is an answer

@@ -1,10 +1,10 @@
-use Rattle.std.proofs.Common.{◌≡◌, ℕ, ◌^◌, ◌<◌, ◌&&◌, eqb, List, get_or, refl, ◌∙◌, arith, rules, tests}
+use Rattle.std.proofs.Common.{◌≡◌, ℕ, ◌^◌, ◌<◌, ◌&&◌, eqb, List, get_or, ◌∙◌, arith, rules, tests}
 use lib.Bits.{bit_and}
 use Rattle.systems.specs.Meaning.{Meaning, Bounded}
 use Rattle.systems.specs.Sets.{has, set_of}
 use Rattle.preorder.specs.Reason.{unanswered}
 use Rattle.comparison.specs.Search.{lowest, relation_of}
-use Rattle.comparison.proofs.Searches.{find_lowest, lost_is, lowest_same}
+use Rattle.comparison.proofs.Searches.{lost_is, lowest_same}
 use Rattle.comparison.proofs.moves.unanswered.Goals as goal
 
 -- the test of the code, by what was read
@@ -16,5 +16,5 @@ by_masks mover other bm bo masks p q a n reached answers small all from to =
 
 pub returns : goal.returns
 returns g c =
-    find_lowest _ refl _ (λ t. has c.reach-reached.result t && eqb (bit_and (get_or c.args.related.now t 0) c.reach-answers.result) 0) _ _ c.find.ensures.ran (λ x b q k. search (rules, tests))
+    c.lowest_where.ensures (λ t. has c.reach-reached.result t && eqb (bit_and (get_or c.args.related.now t 0) c.reach-answers.result) 0) (λ t b h k. search (rules, tests))
     ∙ by_masks _ _ (g.met.M.System.bounded _) (g.met.O.System.bounded _) _ _ _ _ _ _ _ (λ t. (c.type_inv.related t).fits) c.states.ensures c.reach-reached.ensures c.reach-answers.ensures
