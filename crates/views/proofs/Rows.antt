@@ -1,14 +1,14 @@
 -- The rows of silent closures, as the loops build them.
 use Rattle.std.specs.Prelude.{◌≡◌, ℕ, suc, ◌+◌, ◌<◌, Bool, true, false, cond, ◌&&◌, ◌||◌, List, replicate, ◌==◌, bit_or, nat_lt, slice_index}
 use Rattle.std.proofs.Math.Path.{sym, ap, ap₂}
-use Rattle.std.proofs.Common.{◌∙◌, refl, set, get_or, ◌≤◌, ◌⊎◌, inl, inr, arith}
-use Rattle.std.proofs.lemmas.List.{ext_get_or, length-replicate, get_or-replicate, get_or_past}
+use Rattle.std.proofs.Common.{◌∙◌, refl, set, get_or, ◌-◌, ◌≤◌, ◌++◌, length, take, drop, ◌⊎◌, inl, inr, arith}
+use Rattle.std.proofs.lemmas.List.{ext_get_or, length-append, length-drop, length-replicate, get_or_append_left, get_or-append_right, get_or-drop, get_or-take, get_or-replicate, get_or_past}
 use Rattle.std.proofs.Math.Bool.{or_comm, or-false}
 use Rattle.std.proofs.Math.Numerals.{add-one}
 use Rattle.std.proofs.lemmas.Bool.{ltb-true, and_parts, cases_lt}
 use Rattle.systems.specs.Meaning.{Meaning, Bounded}
 use Rattle.systems.specs.Sets.{has, set_of, some_of}
-use Rattle.systems.proofs.Sets.{has-set_of, set_of_cong, set_of_none, set_of_or, has_none, some_cong, some_within}
+use Rattle.systems.proofs.Sets.{has-set_of, set_of_cong, set_of_none, set_of_or, some_cong, some_within}
 use Rattle.views.specs.Weak.{Passed, in_rows, overlap, leads, through, silent, rows_through, silent_rows, loops, diverging}
 use Rattle.systems.proofs.Cells.{length-written, get_or-written, get_or-written_past}
 
@@ -51,6 +51,20 @@ module _ {L : Type 0} (m : Meaning L) where
       go true = ap₂ bit_or e d ∙ set_of_or 64 (through m k p) (through m k k)
       go false = e ∙ set_of_cong 64 _ _ (λ t l. sym (or-false (through m k p t)))
 
+-- the first n rows let through, and the others put back
+pub passed_part : (rows part : List ℕ) (n k : ℕ) → n ≤ 64 → length rows ≡ 64 → length part ≡ n
+    → ((p : ℕ) → p < n → get_or part p 0 ≡ cond (has (get_or (take n rows) p 0) k) (bit_or (get_or (take n rows) p 0) (get_or rows k 0)) (get_or (take n rows) p 0))
+    → Passed rows n k (part ++ drop n rows)
+passed_part rows part n k few long held through_k = record {
+  long = omega (arith, length-append part (drop n rows), length-drop n rows);
+  each = λ p l.
+      get_or_append_left part (drop n rows) 0 p (omega (arith, held)) ∙ through_k p l
+      ∙ ap (λ (row : ℕ). cond (has row k) (bit_or row (get_or rows k 0)) row) (get_or-take n rows p 0 l);
+  rest = λ p h.
+      get_or-append_right part (drop n rows) n p 0 held h ∙ get_or-drop n rows (p - n) 0
+      ∙ ap (λ (i : ℕ). get_or rows i 0) (omega arith);
+}
+
 module _ {L : Type 0} (m : Meaning L) (bounded : Bounded m) where
   pub row_held : (k p : ℕ) → p < m.states → slice_index (rows_through m k) p ≡ set_of 64 (through m k p)
   unfolding rows_through
@@ -64,22 +78,22 @@ module _ {L : Type 0} (m : Meaning L) (bounded : Bounded m) where
       empty (inl l) = get_or-replicate 64 p 0 0 l
       empty (inr l) = get_or_past (replicate 64 0) p 0 (omega (arith, length-replicate {A = ℕ} 64 0))
 
-  -- every row, absent states' too, lets itself through state k
-  pub rows_passed : (rows after : List ℕ) (k : ℕ) → k < m.states → rows ≡ rows_through m k → Passed rows k after → after ≡ rows_through m (k + 1)
+  -- the row of each state lets itself through state k; those of absent states stay empty
+  pub rows_passed : (rows after : List ℕ) (n k : ℕ) → n ≡ m.states → k < m.states → rows ≡ rows_through m k → Passed rows n k after → after ≡ rows_through m (k + 1)
   unfolding rows_through
-  rows_passed rows after k h e passed =
+  rows_passed rows after n k all h e passed =
       rw add-one
       (ext_get_or 0 after (rows_through m (suc k)) (passed.long ∙ sym (length-written _ (replicate 64 0) m.states ∙ length-replicate {A = ℕ} 64 0))
-      (λ p l. passed.each p (omega (arith, passed.long)) ∙ ap (λ xs. joined (get_or xs p 0) (get_or xs k 0)) e ∙ go p (cases_lt p m.states)))
+      (λ p l. go p (cases_lt p m.states)))
     where
       joined : ℕ → ℕ → ℕ
       joined row via = cond (has row k) (bit_or row via) row
 
-      go : (p : ℕ) → (p < m.states) ⊎ (m.states ≤ p) → joined (get_or (rows_through m k) p 0) (get_or (rows_through m k) k 0) ≡ get_or (rows_through m (suc k)) p 0
-      go p (inl l) = next_row m k p _ _ (omega (arith, bounded.few_states)) (row_held k p l) (row_held k k h) ∙ sym (row_held (suc k) p l)
-      go p (inr l) =
-          ap (λ row. joined row (get_or (rows_through m k) k 0)) (row_absent k p l)
-          ∙ ap (λ b. cond b (bit_or 0 (get_or (rows_through m k) k 0)) 0) (has_none k) ∙ sym (row_absent (suc k) p l)
+      go : (p : ℕ) → (p < m.states) ⊎ (m.states ≤ p) → get_or after p 0 ≡ get_or (rows_through m (suc k)) p 0
+      go p (inl l) =
+          passed.each p (omega (arith, all)) ∙ ap (λ xs. joined (get_or xs p 0) (get_or xs k 0)) e
+          ∙ next_row m k p _ _ (omega (arith, bounded.few_states)) (row_held k p l) (row_held k k h) ∙ sym (row_held (suc k) p l)
+      go p (inr l) = passed.rest p (omega (arith, all)) ∙ ap (λ xs. get_or xs p 0) e ∙ row_absent k p l ∙ sym (row_absent (suc k) p l)
 
   -- ---- what the rows of silent closures say
 

@@ -1,5 +1,5 @@
 -- The weak view of a system: action 0 is silent, and in the view its place is taken by any number of silent moves.
-use Rattle.std.specs.Prelude.{◌≡◌, ℕ, zero, suc, ◌<◌, Bool, true, cond, ◌&&◌, ◌||◌, ◌⊎◌, List, length, replicate, bit_or, Decides, ◌==◌, nat_lt, slice_index}
+use Rattle.std.specs.Prelude.{◌≡◌, ℕ, zero, suc, ◌<◌, ◌≤◌, Bool, true, cond, ◌&&◌, ◌||◌, ◌⊎◌, List, length, replicate, bit_or, Decides, ◌==◌, nat_lt, slice_index}
 use Rattle.systems.specs.Cells.{written}
 use Rattle.systems.specs.Meaning.{Meaning}
 use Rattle.systems.specs.Sets.{has, set_of, some_of}
@@ -45,10 +45,11 @@ leads n x r t = some_of n (λ q. x q && r q t)
 abbrev pub in_rows : List ℕ → ℕ → ℕ → Bool
 in_rows rows p = has (slice_index rows p)
 
--- the rows let through number k too: each row that has k is joined by the row of k
-pub record Passed (rows : List ℕ) (k : ℕ) (after : List ℕ) : Type 0 where
+-- the first n rows let through number k too: each of them that has k is joined by the row of k; the others are kept
+pub record Passed (rows : List ℕ) (n k : ℕ) (after : List ℕ) : Type 0 where
   pub long : length after ≡ 64
-  pub each : (p : ℕ) → p < 64 → slice_index after p ≡ cond (in_rows rows p k) (bit_or (slice_index rows p) (slice_index rows k)) (slice_index rows p)
+  pub each : (p : ℕ) → p < n → slice_index after p ≡ cond (in_rows rows p k) (bit_or (slice_index rows p) (slice_index rows k)) (slice_index rows p)
+  pub rest : (p : ℕ) → n ≤ p → slice_index after p ≡ slice_index rows p
 
 module _ {L : Type 0} (m : Meaning L) where
   -- p comes to t by silent moves that pass only through states below k

@@ -46,16 +46,15 @@ fn first_row<L: Label, S: System<L>>(below: &S, p: u8) -> u64
     insert(below.reach(p, 0), p)
 }
 
-// Lets the rows pass through state k too. The row of k itself stays as it is meanwhile.
-fn pass(rows: &mut [u64; 64], k: u8)
-    requires { k < 64 }
-    ensures { Passed rows.old k rows.new }
+// Lets the first n rows pass through state k too. The row of k itself stays as it is meanwhile. Each of these rows is written, changed or
+// not, which costs no jump.
+fn pass(rows: &mut [u64; 64], n: u8, k: u8)
+    requires { (k < n) × (n ≤ 64) }
+    ensures { Passed rows.old n k rows.new }
 {
     let via = rows[k as usize];
-    for row in rows.iter_mut() {
-        if contains(*row, k) {
-            *row |= via;
-        }
+    for row in rows[..n as usize].iter_mut() {
+        *row = if contains(*row, k) { *row | via } else { *row };
     }
 }
 
@@ -67,7 +66,7 @@ pub fn closure<L: Label, S: System<L>>(below: &S) -> [u64; 64]
     let mut rows = [0; 64];
     write_first(&mut rows, states as usize, |p| first_row(below, p as u8));
     for k in 0..states {
-        pass(&mut rows, k);
+        pass(&mut rows, states, k);
     }
     rows
 }

@@ -15,7 +15,7 @@ loop-k-init g c =
 pub loop-k-preserved : goal.loop-k-preserved
 loop-k-preserved g c =
     let m = g.S.System.meaning c.args.below.now in
-    rows_passed m (g.met.S.System.bounded c.args.below.now) _ _ c.loop-k.k (omega arith) c.loop-k.invariant c.pass.ensures
+    rows_passed m (g.met.S.System.bounded c.args.below.now) _ _ _ c.loop-k.k c.states-states.ensures (omega arith) c.loop-k.invariant c.pass.ensures
 
 pub returns : goal.returns
 returns g c = let done : c.loop-k.k ≡ (g.S.System.meaning c.args.below.now).states = omega arith in c.loop-k.invariant ∙ ap (λ k. rows_through (g.S.System.meaning c.args.below.now) k) done
