@@ -54,10 +54,11 @@ impl Marking for NoMark {
     }
 }
 
+// Both fields are public, so that a layer can stand in a constant, which may call no function.
 #[derive(Drop)]
 pub struct Layer<S, M> {
     pub below: S,
-    marking: PhantomData<M>,
+    pub marking: PhantomData<M>,
 }
 
 pub type AllOpen<S> = Layer<S, EveryMark>;
