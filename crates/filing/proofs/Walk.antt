@@ -1,6 +1,5 @@
 -- Going through the records from a place on: what is known at each record, and at the end.
-use Rattle.std.proofs.Common.{◌≡◌, ℕ, zero, suc, ◌+◌, ◌<◌, ◌≤◌, Bool, true, false, cond, ltb, leb, List, [], ◌∷◌, length, Some, None, Ok, Err, Result, sym, refl, ap, ◌∙◌, subst, arith, take, drop, ◌-◌}
-use Rattle.std.proofs.lemmas.List.{take_rest, drop-drop}
+use Rattle.std.proofs.Common.{◌≡◌, ℕ, zero, suc, ◌+◌, ◌<◌, ◌≤◌, Bool, true, false, cond, ltb, leb, List, [], ◌∷◌, length, Some, None, Ok, Err, Result, sym, refl, ap, ◌∙◌, subst, arith}
 use Rattle.std.proofs.lemmas.Bool.{le-leb, le-ltb, ltb-false}
 use Rattle.std.specs.Result.{result_unwrap_or}
 use Rattle.filing.specs.declared.fault.Cause.{Cause}
@@ -28,10 +27,6 @@ module _ {L : Type 0} (width : ℕ) (read : List ℕ → L) (bytes : List ℕ) w
 
   pub whole_fits : (at size : ℕ) (r : Record L) → at + size ≤ length bytes → Ok (Some (r, at + size)) ≡ whole bytes at size r
   whole_fits at size r fits = ap (λ b. cond b (Err Cause.CutShort) (Ok (Some (r, at + size)))) (sym (le-ltb (length bytes) (at + size) fits))
-
-  -- a label's bytes, of those that are left
-  pub label_bytes : (at few : ℕ) → few ≡ width → (rest : List ℕ) → rest ≡ drop at bytes → take few (take (length rest - 3) (drop 3 rest)) ≡ take width (drop (at + 3) bytes)
-  label_bytes at few same rest is = rw (take_rest rest 3, same, is, drop-drop 3 at bytes)
 
   mark_within : (at : ℕ) (m : Mark) → Within at (entry_of width read bytes at m)
   unfolding Within

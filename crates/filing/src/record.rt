@@ -61,8 +61,9 @@ fn label_at<L: Label>(bytes: &[u8], at: usize) -> Result<Option<(Record<L>, usiz
 {
     match bytes.get(at..) {
         Some([_, _, p, label @ ..]) if L::WIDTH <= label.len() => {
-            let label = L::from_bytes(&label[..L::WIDTH]);
-            Ok(Some((Record::Label(*p, label), at + 3 + L::WIDTH)))
+            let next = at + 3 + L::WIDTH;
+            let label = L::from_bytes(&bytes[at + 3..next]);
+            Ok(Some((Record::Label(*p, label), next)))
         }
         _ => Err(Cause::CutShort),
     }
