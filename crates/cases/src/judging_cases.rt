@@ -4,6 +4,7 @@ use formulas::judging::judge;
 use formulas::node::Node;
 use formulas::refusal::Refusal;
 use systems::kinds::Rank;
+use systems::system::System;
 
 // 0 -1-> 1, 1 -2-> 2, state 0 open on 2, rank 3 at state 1
 const SYSTEM: &[u8] = b"SY\x03\x03\x00\x00MV\x00\x01\x01MV\x01\x02\x02OP\x00\x02LB\x01\x03\x00";
@@ -43,6 +44,8 @@ fn each_form_of_node(rt: HostRuntime) {
 #[test]
 fn refused_nodes(rt: HostRuntime) {
     let mut answers = [7u64; 2];
+    // filed, and not the lone system that a refused filing leaves
+    assert_eq!(rt; ranked(SYSTEM).states(), 3);
     assert_eq!(rt;
         judged(&[Node::True, Node::Diamond(3, 0)], &mut answers).map_err(numbered),
         Err((51, 1))
